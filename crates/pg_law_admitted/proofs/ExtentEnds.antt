@@ -21,7 +21,7 @@ use Rattle.pg_region.specs.Regions.{flow_of}
 use Rattle.pg_run.specs.State.{State, id_in, instr_of}
 use Rattle.pg_slice_rules.specs.Extents.{Extent, begun, edge_by, edge_in, ends, is_live, open_after}
 use Rattle.pg_slice_rules.specs.Freeable.{FreeRegion}
-use Rattle.pg_slice_rules.specs.Known.{Reference, RunShadow, Taken, ThreadShadow, after_step, edge_of, live_after, no_thread, region_of, thread_of, with_extents}
+use Rattle.pg_slice_rules.specs.Known.{Reference, SymbolicState, Taken, SymbolicThread, after_step, edge_of, live_after, no_thread, region_of, thread_of, with_extents}
 use Rattle.pg_slice_rules.specs.Moments.{Moment, instr_in, registers_in, thread_in}
 use Rattle.pg_law_least.specs.Keeps.{AreStacked}
 use Rattle.pg_law_instances.specs.Inside.{Instance, edge_at as edge_from, edge_taken}
@@ -85,13 +85,13 @@ pub begun_on : (n depth : ℕ) (region : Option FreeRegion) (later earlier : Lis
 begun_on n depth None later earlier e = (later, refl)
 begun_on n depth (Some r) later earlier e = (record { step = n; join = r.join; depth = depth } ∷ later, refl)
 
-pub own_open : (threads : List ThreadShadow) (t : ℕ) (es : List Extent) → t < length threads → extents_in (with_extents t es threads) t ≡ es
+pub own_open : (threads : List SymbolicThread) (t : ℕ) (es : List Extent) → t < length threads → extents_in (with_extents t es threads) t ≡ es
 own_open [] t es h = absurd (omega (arith, h))
 own_open (x ∷ xs) zero es h = refl
 own_open (x ∷ xs) (suc t) es h = own_open xs t es (omega (arith, h))
 
-module _ (R : Reference) (d : Taken) (n : ℕ) (m : Moment) (known : RunShadow) where
-  abbrev pub old_threads : List ThreadShadow
+module _ (R : Reference) (d : Taken) (n : ℕ) (m : Moment) (known : SymbolicState) where
+  abbrev pub old_threads : List SymbolicThread
   old_threads = (if is_live d.pinned (thread_of known (thread_in m)).extents then live_after R.program d n m (region_of R.program R.regions m (instr_in R.program m))
       (instr_in R.program m) known else known).threads
 

@@ -44,7 +44,7 @@ use Rattle.pg_slice_rules.specs.Freeable.{FreeAccess, FreeRegion, bounds_of}
 use Rattle.pg_slice_rules.specs.Known.{Taken, after_op, forgotten_from, region_of, result_in, thread_of}
 use Rattle.pg_slice_rules.specs.Moments.{Moment, instr_in, thread_in}
 use Rattle.pg_slice_rules.specs.Rules.{Footprint, footprints_in}
-use Rattle.pg_slice_rules.specs.Shadows.{Shadow, Unknown}
+use Rattle.pg_slice_rules.specs.SymbolicValues.{Symbolic, Unknown}
 use Rattle.pg_law_instances.specs.Inside.{Instance, IsAtJoin, IsBranch, registers_by}
 use Rattle.pg_law_instances.specs.Leads.{IsReached as LeadsTo, IsWithin}
 use Rattle.pg_law_instances.specs.Stays.{TellsWithin}
@@ -73,7 +73,7 @@ values_length (s ∷ ss) [] h = absurd h
 values_length (s ∷ ss) (v ∷ vs) h = ap suc (values_length ss vs h.1)
 
 -- those that may be set are unknown, and the others are as they were
-forgotten_like : (input : List ℤ) (k : ℕ) (sets : ℕ → Bool) (x : Decision) (ss : List Shadow) (vs ws : List (Option ℕ)) → AreLike input ss vs → length ws ≡ length vs →
+forgotten_like : (input : List ℤ) (k : ℕ) (sets : ℕ → Bool) (x : Decision) (ss : List Symbolic) (vs ws : List (Option ℕ)) → AreLike input ss vs → length ws ≡ length vs →
     ((i : ℕ) → sets (k + i) ≡ false → flat (slice_get ws i) ≡ flat (slice_get vs i)) → AreLike input (forgotten_from k sets x ss) ws
 forgotten_like input k sets x [] [] [] h n kept = tt
 forgotten_like input k sets x [] [] (w ∷ ws) h n kept = absurd cc
@@ -194,7 +194,7 @@ below_is b h = lt-ltb b MEMORY_BYTES h
 
 -- ---- the calls behind a branch step that is left free
 
-after_free : (p : NumberedProgram) (n res : ℕ) (m : Moment) (q : FreeRegion) (x : Instr) (o : Op) (ks : List Shadow) (more : List (List Shadow)) → IsBranch o
+after_free : (p : NumberedProgram) (n res : ℕ) (m : Moment) (q : FreeRegion) (x : Instr) (o : Op) (ks : List Symbolic) (more : List (List Symbolic)) → IsBranch o
     → after_op p false n m (Some q) res x o (ks ∷ more) ≡ forgotten_from 0 q.sets (Pinned n) ks ∷ more
 after_free p n res m q x (op.CondBr c a b) ks more h = refl
 after_free p n res m q x (op.Switch w on other cs) ks more h = refl
@@ -375,13 +375,13 @@ module _ (r : ReferenceRun) (d : Taken) (input : List ℤ) (sums : ℕ → Optio
   unknown_there : (c : ℕ) → writes_cell d u.seen c ≡ true → IsUnknown (cell_known u.known c)
   unknown_there c h = subst (λ known. IsUnknown (cell_known known c)) (sym unit.known) (freed_unknown (reference_of r) d u.seen unit.met.region (sym unit.met.live ∙ unit.live) free c h)
 
-  cell_there : (c : ℕ) (v : Shadow) (w : ℕ) → IsCellLike input v w →
+  cell_there : (c : ℕ) (v : Symbolic) (w : ℕ) → IsCellLike input v w →
       IsCellLike input (or_old (if writes_cell d u.seen c then Some (cell_known u.known c) else None) v)
       (or_old (if list_any (λ y. recorded.writes y c) (m.told ∷ m.inner) then Some (cell_at m.end c) else None) w)
   cell_there c v w h = go (writes_cell d u.seen c) refl (list_any (λ y. recorded.writes y c) (m.told ∷ m.inner)) refl
     where
       any_number : (n : ℕ) → IsUnknown (cell_known u.known c) → IsCellLike input (cell_known u.known c) n
-      any_number n k = subst (λ (s : Shadow). IsCellLike input s n) (sym k.1) tt
+      any_number n k = subst (λ (s : Symbolic). IsCellLike input s n) (sym k.1) tt
 
       go : (x : Bool) → writes_cell d u.seen c ≡ x → (y : Bool) → list_any (λ y. recorded.writes y c) (m.told ∷ m.inner) ≡ y →
           IsCellLike input (or_old (if x then Some (cell_known u.known c) else None) v) (or_old (if y then Some (cell_at m.end c) else None) w)

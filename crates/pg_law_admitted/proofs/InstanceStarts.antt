@@ -40,8 +40,8 @@ use Rattle.pg_law_effects.specs.Views.{cell_at, is_thread, local_at}
 use Rattle.pg_slice_rules.specs.Freeable.{FreeAccess, FreeRegion, region_at}
 use Rattle.pg_slice_rules.specs.Known.{Taken, is_branch, region_of, thread_of, top_of}
 use Rattle.pg_slice_rules.specs.Moments.{instr_in, number_in as moment_number, registers_in, thread_in}
-use Rattle.pg_slice_rules.specs.Rules.{all_of, bounds_needs, free_access_needs, kind_in, region_needs_in, registers_before, root_shadow, access_needs_in, access_needs_by}
-use Rattle.pg_slice_rules.specs.Shadows.{Shadow, always, unset}
+use Rattle.pg_slice_rules.specs.Rules.{all_of, bounds_needs, free_access_needs, kind_in, region_needs_in, registers_before, root_symbolic, access_needs_in, access_needs_by}
+use Rattle.pg_slice_rules.specs.SymbolicValues.{Symbolic, always, unset}
 use Rattle.pg_law_instances.specs.Free.{instance_of}
 use Rattle.pg_law_instances.specs.Inside.{IsAtBranch, IsBranch, registers_by}
 use Rattle.pg_law_instances.specs.Leads.{Leads}
@@ -89,15 +89,15 @@ branch_told gated p s t ns a n c x actions.Ended i e = absurd cc
 
 -- ---- the roots of paths
 
-register_like : (input : List ℤ) (ss : List Shadow) (vs : List (Option ℕ)) (k : ℕ) → AreLike input ss vs → IsLike input (slice_index_or ss k unset) (registers_by vs k)
+register_like : (input : List ℤ) (ss : List Symbolic) (vs : List (Option ℕ)) (k : ℕ) → AreLike input ss vs → IsLike input (slice_index_or ss k unset) (registers_by vs k)
 register_like input [] [] k h = valued_like input (λ i. None) None refl
 register_like input [] (v ∷ vs) k h = absurd h
 register_like input (s ∷ ss) [] k h = absurd h
 register_like input (s ∷ ss) (v ∷ vs) zero h = h.0
 register_like input (s ∷ ss) (v ∷ vs) (suc k) h = register_like input ss vs k h.1
 
-root_like : (input : List ℤ) (p : NumberedProgram) (ss : List Shadow) (vs : List (Option ℕ)) (g : Root) → AreLike input ss vs
-    → IsLike input (root_shadow p ss g) (root_value p (registers_by vs) g)
+root_like : (input : List ℤ) (p : NumberedProgram) (ss : List Symbolic) (vs : List (Option ℕ)) (g : Root) → AreLike input ss vs
+    → IsLike input (root_symbolic p ss g) (root_value p (registers_by vs) g)
 root_like input p ss vs (root.Register k) h = register_like input ss vs k h
 root_like input p ss vs (root.Global k) h = valued_like input (λ i. root_value p (λ j. None) (root.Global k)) (root_value p (registers_by vs) (root.Global k)) refl
 root_like input p ss vs (root.Const k) h = valued_like input (λ i. root_value p (λ j. None) (root.Const k)) (root_value p (registers_by vs) (root.Const k)) refl
@@ -215,7 +215,7 @@ module _ (r : ReferenceRun) (d : Taken) (input : List ℤ) (u : PlanUnit) (unit 
         go : (x : Bool) → nat_lt b MEMORY_BYTES ≡ x → IsCellLike input (u.seen.before.bytes b) (byte_at st.memory b)
         go true e =
             subst (λ (n : ℕ). IsCellLike input (u.seen.before.bytes b) n) (ap (λ (x : Bool). if x then byte_at st.memory b else slice_index st.words (b - MEMORY_BYTES)) e)
-            (subst (λ (s : Shadow). IsCellLike input s (cell_at st b))
+            (subst (λ (s : Symbolic). IsCellLike input s (cell_at st b))
             (ap (λ (x : Bool). if x then u.seen.before.bytes b else slice_index_or u.seen.before.words (b - MEMORY_BYTES) (always 0)) e) (cells b k))
         go false e = absurd (true≢false (sym k ∙ ap (λ (x : Bool). if x then reads_byte d u.seen b else is_thread (word_read (thread_in u.seen.moment) (kind_in u.seen)) (b - MEMORY_BYTES)) e
             ∙ no_word))
@@ -225,13 +225,13 @@ module _ (r : ReferenceRun) (d : Taken) (input : List ℤ) (u : PlanUnit) (unit 
     leads a c =
         let m = u.seen.moment in
         let ks = offsets_of a.path.loads in
-        let s = root_shadow r.program (registers_before u.seen) a.path.root in
+        let s = root_symbolic r.program (registers_before u.seen) a.path.root in
         let v = root_value r.program (registers_by both.f.registers) a.path.root in
         let g = followed_at r.program m freed_here.region.accesses.items step_free.free.accesses a freed_here.accesses c in
         let fa : FreeAccess = record { writes = a.writes; path = a.path; at = g.0 } in
         let rt = follows_root (moment_number m) ks (root_value r.program (registers_by (registers_in m.calls)) a.path.root) g.0 g.1 in
         let needs = needs_of fa g.2 in
-        let like : IsLike input s v = subst (λ (ss : List Shadow). IsLike input (root_shadow r.program ss a.path.root) v) (sym (ap top_of both.calls))
+        let like : IsLike input s v = subst (λ (ss : List Symbolic). IsLike input (root_symbolic r.program ss a.path.root) v) (sym (ap top_of both.calls))
         (root_like input r.program both.ks both.f.registers a.path.root both.top.registers) in
         let w = root_there input u.seen.before.bytes (byte_at st.memory) (moment_number m) (read st.memory) (read_is st) ks s v rt.0 g.0 rt.2 like needs in
         let k = follow input u.seen.before.bytes (byte_at st.memory) (moment_number m) (read st.memory) (read_is st) ks s rt.0 w.0 g.0 rt.2 (subst (IsLike input s) w.1 like) needs

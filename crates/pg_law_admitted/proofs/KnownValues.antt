@@ -7,7 +7,7 @@ use Rattle.pg_ir.specs.declared.ids.InstrId.{InstrId}
 use Rattle.pg_law_threads.proofs.DoneLists.{all_map}
 use Rattle.pg_run_thread.specs.LocalState.{Frame, LocalState}
 use Rattle.pg_slice_rules.specs.Known.{Taken, thread_of}
-use Rattle.pg_slice_rules.specs.Shadows.{Known, OnInput, Shadow}
+use Rattle.pg_slice_rules.specs.SymbolicValues.{Known, OnInput, Symbolic}
 use Rattle.pg_law_effects.specs.Views.{local_at}
 use Rattle.pg_law_runs.specs.Cuts.{IsFrontOf}
 use Rattle.pg_law_plan.specs.Likes.{AreCallsLike, AreLike, IsLike, StandLike}
@@ -41,23 +41,23 @@ module _ (r : ReferenceRun) (d : Taken) (input : List ℤ) (sums : ℕ → Optio
 
   -- ---- known values
 
-  register_known : (ks : List Shadow) (vs : List (Option ℕ)) (k : ℕ) (f g : OnInput) → AreLike input ks vs → slice_get ks k ≡ Some (Known f g) → slice_get vs k ≡ Some (f input)
+  register_known : (ks : List Symbolic) (vs : List (Option ℕ)) (k : ℕ) (f g : OnInput) → AreLike input ks vs → slice_get ks k ≡ Some (Known f g) → slice_get vs k ≡ Some (f input)
   register_known [] vs k f g h e = absurd cc
   register_known (s ∷ ks) [] k f g h e = absurd h
   register_known (s ∷ ks) (v ∷ vs) zero f g h e =
       let same : s ≡ Known f g = cc in
-      let like : IsLike input (Known f g) v = subst (λ (z : Shadow). IsLike input z v) same h.0 in
+      let like : IsLike input (Known f g) v = subst (λ (z : Symbolic). IsLike input z v) same h.0 in
       ap (λ (o : Option ℕ). Some o) like.0
   register_known (s ∷ ks) (v ∷ vs) (suc k) f g h e = register_known ks vs k f g h.1 e
 
-  call_known : (fs : List Frame) (calls : List (List Shadow)) (gs : List Frame) (i k : ℕ) (ks : List Shadow) (f g : OnInput) → AreCallsLike input fs calls gs → slice_get calls i ≡ Some ks
+  call_known : (fs : List Frame) (calls : List (List Symbolic)) (gs : List Frame) (i k : ℕ) (ks : List Symbolic) (f g : OnInput) → AreCallsLike input fs calls gs → slice_get calls i ≡ Some ks
       → slice_get ks k ≡ Some (Known f g) →
       (frame : Frame) × (slice_get gs i ≡ Some frame) × (slice_get frame.registers k ≡ Some (f input))
   call_known fs [] gs i k ks f g h e v = absurd cc
   call_known [] (c ∷ calls) gs i k ks f g h e v = absurd h
   call_known (x ∷ fs) (c ∷ calls) [] i k ks f g h e v = absurd h
   call_known (x ∷ fs) (c ∷ calls) (y ∷ gs) zero k ks f g h e v = let same : c ≡ ks =
-      cc in (y, refl, register_known ks y.registers k f g (subst (λ (l : List Shadow). AreLike input l y.registers) same h.0.registers) v)
+      cc in (y, refl, register_known ks y.registers k f g (subst (λ (l : List Symbolic). AreLike input l y.registers) same h.0.registers) v)
   call_known (x ∷ fs) (c ∷ calls) (y ∷ gs) (suc i) k ks f g h e v = call_known fs calls gs i k ks f g h.1 e v
 
   known : (e : Portion) → IsOfUnit r d input sums e → HasKnownValues input e

@@ -25,7 +25,7 @@ use Rattle.pg_run.specs.Runs.{IsRun}
 use Rattle.pg_run.specs.State.{State, initial}
 use Rattle.pg_slice_rules.specs.Extents.{Extent, begun, ends, is_live}
 use Rattle.pg_slice_rules.specs.Freeable.{FreeRegion, Regions}
-use Rattle.pg_slice_rules.specs.Known.{Reference, RunShadow, Seen, Taken, after_step, edge_of, has, region_of, seen_from, seen_in, start_of, thread_of}
+use Rattle.pg_slice_rules.specs.Known.{Reference, SymbolicState, Seen, Taken, after_step, edge_of, has, region_of, seen_from, seen_in, start_of, thread_of}
 use Rattle.pg_slice_rules.specs.Moments.{Moment, calls_of, instr_in, moments_from, thread_in}
 use Rattle.pg_slice_rules.specs.declared.decision.Decision.{Decision}
 use Rattle.pg_slice_rules.specs.declared.decision.Decision.TheVariants.{Exact, Pinned}
@@ -64,7 +64,7 @@ IsStackedAt R y = AreStacked (length y.moment.calls) (edge_of R.program y.moment
     (begun y.number (length y.moment.calls) y.region (thread_of y.before (thread_in y.moment)).extents)
 
 -- extents rest on no decision, so they are stacked under each
-stack_by : (R : Reference) (d e : Taken) (n : ℕ) (wd we : RunShadow) (ms : List Moment) → AllZip SameExtents (seen_from R d n wd ms) (seen_from R e n we ms)
+stack_by : (R : Reference) (d e : Taken) (n : ℕ) (wd we : SymbolicState) (ms : List Moment) → AllZip SameExtents (seen_from R d n wd ms) (seen_from R e n we ms)
     → AllOf (IsStackedAt R) (seen_from R e n we ms) → AllOf (IsStackedAt R) (seen_from R d n wd ms)
 unfolding seen_from
 stack_by R d e n wd we [] z h = tt
@@ -86,13 +86,13 @@ module _ (r : ReferenceRun) (d : Taken) (program : IsProgram r.program) (small0 
     abbrev Comes : ℕ → List Met → Type 0
     Comes t ms = (m : LocalState) × (next_local t last ms ≡ Some m) × IsAtJoin (instance_of r.program (λ i. is_gated r.gated i) sums region q s0 l0 f0 fs0) m
 
-    module _ (T : List ℕ) (k n : ℕ) (known : RunShadow) (s w : State) (x : Step) (ys : List Step) (t : ℕ) (l : LocalState) (own : x.thread.0 ≡ t) (end : last ≡ w)
+    module _ (T : List ℕ) (k n : ℕ) (known : SymbolicState) (s w : State) (x : Step) (ys : List Step) (t : ℕ) (l : LocalState) (own : x.thread.0 ≡ t) (end : last ≡ w)
         (run : IsRun r.gated r.program r.input s (x ∷ ys) w) (holds : remembered.Holds r d program small0 known s)
         (together : AreTogether (x ∷ ys)) (can : CanStepInside (instance_of r.program (λ i. is_gated r.gated i) sums region q s0 l0 f0 fs0) r.gated s t l) where
       abbrev m : Moment
       m = record { did = timed recorded T k x; calls = calls_of (slice_get s.locals x.thread.0); bytes = byte_at s.memory }
 
-      abbrev known2 : RunShadow
+      abbrev known2 : SymbolicState
       known2 = after_step (reference_of r) d n m known
 
       abbrev stay : StaysInside (instance_of r.program (λ i. is_gated r.gated i) sums region q s0 l0 f0 fs0) t l x s run.0.after
@@ -155,7 +155,7 @@ module _ (r : ReferenceRun) (d : Taken) (program : IsProgram r.program) (small0 
                 (subst (λ (z : State). CanStepInside (instance_of r.program (λ i. is_gated r.gated i) sums region q s0 l0 f0 fs0) r.gated z t stay.local) (sym (behind_is r d s x run.0))
                 (inside_again (instance_of r.program (λ i. is_gated r.gated i) sums region q s0 l0 f0 fs0) r.gated s run.0.after t l x can stay i))
 
-    rejoins : (T : List ℕ) (k n : ℕ) (known : RunShadow) (s w : State) (xs : List Step) (t : ℕ) (l : LocalState) (later earlier : List Extent) → last ≡ w
+    rejoins : (T : List ℕ) (k n : ℕ) (known : SymbolicState) (s w : State) (xs : List Step) (t : ℕ) (l : LocalState) (later earlier : List Extent) → last ≡ w
         → IsRun r.gated r.program r.input s xs w → remembered.Holds r d program small0 known s →
         AllOf (λ (x : Seen). x.live ≡ false → is_event_at x ≡ false) (seen_from (reference_of r) d n known (moments_from r.gated r.program r.input s (times recorded T k xs))) →
         AllOf (IsStackedAt (reference_of r)) (seen_from (reference_of r) d n known (moments_from r.gated r.program r.input s (times recorded T k xs))) →
@@ -190,7 +190,7 @@ module _ (r : ReferenceRun) (d : Taken) (program : IsProgram r.program) (small0 
   abbrev Again : PlanUnit → Type 0
   Again u = is_instance d u.seen ≡ true → JoinsAgain r sums u
 
-  module _ (T : List ℕ) (k n : ℕ) (known : RunShadow) (s w : State) (x : Step) (ys : List Step) (counts : ℕ → ℕ) (end : last ≡ w)
+  module _ (T : List ℕ) (k n : ℕ) (known : SymbolicState) (s w : State) (x : Step) (ys : List Step) (counts : ℕ → ℕ) (end : last ≡ w)
       (run : IsRun r.gated r.program r.input s (x ∷ ys) w) (holds : remembered.Holds r d program small0 known s) (together : AreTogether (x ∷ ys)) where
     abbrev mu : Moment
     mu = record { did = timed recorded T k x; calls = calls_of (slice_get s.locals x.thread.0); bytes = byte_at s.memory }
@@ -254,7 +254,7 @@ module _ (r : ReferenceRun) (d : Taken) (program : IsProgram r.program) (small0 
           joined = z.2;
         }
 
-  all_again : (T : List ℕ) (k n : ℕ) (known : RunShadow) (s w : State) (xs : List Step) (counts : ℕ → ℕ) → last ≡ w → IsRun r.gated r.program r.input s xs w
+  all_again : (T : List ℕ) (k n : ℕ) (known : SymbolicState) (s w : State) (xs : List Step) (counts : ℕ → ℕ) → last ≡ w → IsRun r.gated r.program r.input s xs w
       → remembered.Holds r d program small0 known s →
       AllOf (λ (x : Seen). x.live ≡ false → is_event_at x ≡ false) (seen_from (reference_of r) d n known (moments_from r.gated r.program r.input s (times recorded T k xs))) →
       AllOf (IsStackedAt (reference_of r)) (seen_from (reference_of r) d n known (moments_from r.gated r.program r.input s (times recorded T k xs))) →

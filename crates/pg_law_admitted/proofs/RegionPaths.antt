@@ -15,8 +15,8 @@ use Rattle.pg_region_paths.proofs.Elements.{cases, here, there, none_in}
 use Rattle.pg_run_trace.specs.Races.{is_in}
 use Rattle.pg_run.proofs.ActionPlaces.{place_is}
 use Rattle.pg_slice_rules.specs.Freeable.{bounds_of}
-use Rattle.pg_slice_rules.specs.Rules.{Bounds, moved_shadow, path_needs, same_bounds, value_of}
-use Rattle.pg_slice_rules.specs.Shadows.{OnInput, Shadow, Known, Bounded, Unknown, loaded}
+use Rattle.pg_slice_rules.specs.Rules.{Bounds, moved_symbolic, path_needs, same_bounds, value_of}
+use Rattle.pg_slice_rules.specs.SymbolicValues.{OnInput, Symbolic, Known, Bounded, Unknown, loaded}
 use Rattle.pg_law_plan.specs.Likes.{HaveSameBounds, IsCellLike, HasBoundsIfAny, HasBoundsOf, IsLike}
 use Rattle.pg_law_plan.proofs.AccessFits.{bounded_same, loaded_like}
 use Rattle.pg_law_plan.proofs.BranchFits.{eq_met}
@@ -35,7 +35,7 @@ met_number n None h = absurd (true≢false (sym h))
 met_number n (Some z) h = ap (λ (m : ℕ). Some m) (eq_met n z h)
 
 -- an address that is known is moved as the word at hand
-moved_value : (input : List ℤ) (k : ℕ) (s : Shadow) (f : OnInput) (w : ℕ) → value_of (moved_shadow k s) ≡ Some f → IsLike input s (Some w) → f input ≡ Some (moved_by w (pos k))
+moved_value : (input : List ℤ) (k : ℕ) (s : Symbolic) (f : OnInput) (w : ℕ) → value_of (moved_symbolic k s) ≡ Some f → IsLike input s (Some w) → f input ≡ Some (moved_by w (pos k))
 moved_value input k (Known g u) f w e h =
     let same : (λ i. with_one (g i) (λ word. Some (moved_by word (pos k)))) ≡ f = (let q : Some (λ (i : List ℤ). with_one (g i) (λ word. Some (moved_by word (pos k)))) ≡ Some f = e in cc) in
     sym (ap (λ (z : OnInput). z input) same) ∙ sym (ap (λ (o : Option ℕ). with_one o (λ word. Some (moved_by word (pos k)))) h.0)
@@ -87,7 +87,7 @@ tail_pointers recorded g w w0 k ks l at points same v i = subst (λ (z : List �
     go (inl e) = (w0, here w0 l.more.pointers, sym (ap bounds_of e) ∙ sym (moved_bounds w k) ∙ ap bounds_of same ∙ moved_bounds w0 k)
     go (inr c) = let q = points v c in (q.0, there w0 l.more.pointers q.0 q.1, q.2)
 
-module _ (input : List ℤ) (bytes : ℕ → Shadow) (memory : ℕ → ℕ) (recorded now : ByteRange → ℕ) (is_now : (c : ByteRange) → now c ≡ number_of memory c.start c.bytes) where
+module _ (input : List ℤ) (bytes : ℕ → Symbolic) (memory : ℕ → ℕ) (recorded now : ByteRange → ℕ) (is_now : (c : ByteRange) → now c ≡ number_of memory c.start c.bytes) where
   abbrev CellsLike : Followed → Type 0
   CellsLike g = (c : ByteRange) → Contains g.cells c → (b : ℕ) → is_in c b ≡ true → IsCellLike input (bytes b) (memory b)
 
@@ -97,7 +97,7 @@ module _ (input : List ℤ) (bytes : ℕ → Shadow) (memory : ℕ → ℕ) (rec
       subst (λ (n : ℕ). IsLike input (loaded bytes c.start 8) (Some n)) (sym (is_now c))
       (subst (λ (n : ℕ). IsLike input (loaded bytes c.start n) (Some (number_of memory c.start c.bytes))) e (loaded_like input bytes memory c.start c.bytes h))
 
-  pub follow : (ks : List ℕ) (s : Shadow) (w0 w : ℕ) (g : Followed) → followed_from recorded w0 ks ≡ Some g → IsLike input s (Some w)
+  pub follow : (ks : List ℕ) (s : Symbolic) (w0 w : ℕ) (g : Followed) → followed_from recorded w0 ks ≡ Some g → IsLike input s (Some w)
       → AllOf (Holds input) (path_needs bytes s ks g.pointers g.cells g.last) → CellsLike g → Follows now ks w g
   follow [] s w0 w g e h needs cells = record {
     at = record { pointers = []; cells = []; last = w };
@@ -107,7 +107,7 @@ module _ (input : List ℤ) (bytes : ℕ → Shadow) (memory : ℕ → ℕ) (rec
   }
   follow (k ∷ ks) s w0 w g e h needs cells = go (loads_of recorded w0 k ks g e) (λ s2 u0 u g2 e2 h2 n2 c2. follow ks s2 u0 u g2 e2 h2 n2 c2)
     where
-      go : Loads recorded w0 k ks g → ((s2 : Shadow) (u0 u : ℕ) (g2 : Followed) → followed_from recorded u0 ks ≡ Some g2 → IsLike input s2 (Some u)
+      go : Loads recorded w0 k ks g → ((s2 : Symbolic) (u0 u : ℕ) (g2 : Followed) → followed_from recorded u0 ks ≡ Some g2 → IsLike input s2 (Some u)
           → AllOf (Holds input) (path_needs bytes s2 ks g2.pointers g2.cells g2.last) → CellsLike g2 → Follows now ks u g2) → Follows now (k ∷ ks) w g
       go l more =
           let n = subst (λ (z : Followed). AllOf (Holds input) (path_needs bytes s (k ∷ ks) z.pointers z.cells z.last)) (sym l.whole) needs in
@@ -140,7 +140,7 @@ module _ (input : List ℤ) (bytes : ℕ → Shadow) (memory : ℕ → ℕ) (rec
   bounded_some word None h = absurd cc
   bounded_some word (Some w) h = (w, refl)
 
-  bounds_root : (s : Shadow) (v : Option ℕ) (last : ℕ) → IsLike input s v → Holds input (Bounds s (same_bounds last)) → (w : ℕ) × (v ≡ Some w)
+  bounds_root : (s : Symbolic) (v : Option ℕ) (last : ℕ) → IsLike input s v → Holds input (Bounds s (same_bounds last)) → (w : ℕ) × (v ≡ Some w)
   bounds_root (Known g u) v last h n =
       let same : u ≡ n.0 = (let q : Some u ≡ Some n.0 = n.1 in cc) in
       let m = met_some last (n.0 input) n.2 in
@@ -158,7 +158,7 @@ module _ (input : List ℤ) (bytes : ℕ → Shadow) (memory : ℕ → ℕ) (rec
   one_there None k n e = absurd cc
   one_there (Some w) k n e = (w, refl)
 
-  value_root : (s : Shadow) (v : Option ℕ) (k n : ℕ) (f : OnInput) → IsLike input s v → value_of (moved_shadow k s) ≡ Some f → f input ≡ Some n → (w : ℕ) × (v ≡ Some w)
+  value_root : (s : Symbolic) (v : Option ℕ) (k n : ℕ) (f : OnInput) → IsLike input s v → value_of (moved_symbolic k s) ≡ Some f → f input ≡ Some n → (w : ℕ) × (v ≡ Some w)
   value_root (Known g u) v k n f h e m =
       let same : (λ i. with_one (g i) (λ word. Some (moved_by word (pos k)))) ≡ f =
       (let q : Some (λ (i : List ℤ). with_one (g i) (λ word. Some (moved_by word (pos k)))) ≡ Some f = e in cc) in
@@ -168,7 +168,7 @@ module _ (input : List ℤ) (bytes : ℕ → Shadow) (memory : ℕ → ℕ) (rec
   value_root (Unknown x) v k n f h e m = absurd cc
 
   -- what is asked of a path asks that its root has a value
-  pub root_there : (ks : List ℕ) (s : Shadow) (v : Option ℕ) (w0 : ℕ) (g : Followed) → followed_from recorded w0 ks ≡ Some g → IsLike input s v
+  pub root_there : (ks : List ℕ) (s : Symbolic) (v : Option ℕ) (w0 : ℕ) (g : Followed) → followed_from recorded w0 ks ≡ Some g → IsLike input s v
       → AllOf (Holds input) (path_needs bytes s ks g.pointers g.cells g.last) → (w : ℕ) × (v ≡ Some w)
   root_there [] s v w0 g e h needs = bounds_root s v g.last h needs.0
   root_there (k ∷ ks) s v w0 g e h needs =

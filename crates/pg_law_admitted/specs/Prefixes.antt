@@ -11,7 +11,7 @@ use Rattle.pg_run_trace.specs.Races.{recorded}
 use Rattle.pg_run.specs.Permitted.{has_turn, turns_left}
 use Rattle.pg_run.specs.State.{State}
 use Rattle.pg_slice_rules.specs.Known.{Taken, thread_of}
-use Rattle.pg_slice_rules.specs.Shadows.{Known, OnInput, Shadow}
+use Rattle.pg_slice_rules.specs.SymbolicValues.{Known, OnInput, Symbolic}
 use Rattle.pg_law_effects.specs.Views.{local_at}
 use Rattle.pg_law_runs.specs.Cuts.{IsFrontOf}
 use Rattle.pg_law_plan.specs.Units.{PlanUnit, ReferenceRun, is_instance, is_placed_access, reads_cell, units_of, writes_cell}
@@ -30,7 +30,7 @@ instrs_done t es = map (λ (e : Portion). e.step.instr) (filter (λ (e : Portion
 -- before the step of a thread that has begun each register of its calls that is known has the number that its function gives
 abbrev pub HasKnownValues : List ℤ → Portion → Type 0
 HasKnownValues input e =
-    (l : LocalState) (call k : ℕ) (known : List Shadow) (f g : OnInput) → local_at e.state (owner e.unit) ≡ Some l →
+    (l : LocalState) (call k : ℕ) (known : List Symbolic) (f g : OnInput) → local_at e.state (owner e.unit) ≡ Some l →
     slice_get (thread_of e.unit.seen.before (owner e.unit)).calls call ≡ Some known → slice_get known k ≡ Some (Known f g) →
     (frame : Frame) × (slice_get l.frames call ≡ Some frame) × (slice_get frame.registers k ≡ Some (f input))
 

@@ -25,11 +25,11 @@ use Rattle.pg_slice_rules.specs.declared.decision.Decision.{Decision}
 use Rattle.pg_slice_rules.specs.declared.decision.Decision.TheVariants.{Pinned, Exact}
 use Rattle.pg_slice_rules.specs.Moments.{Moment, thread_in}
 use Rattle.pg_slice_rules.specs.Freeable.{FreeRegion, bounds_of}
-use Rattle.pg_slice_rules.specs.Shadows.{Shadow, Known, Bounded, Unknown, always, applied, byte_in, is_within, loaded, shadow_of, unset}
+use Rattle.pg_slice_rules.specs.SymbolicValues.{Symbolic, Known, Bounded, Unknown, always, applied, byte_in, is_within, loaded, symbolic_of, unset}
 use Rattle.pg_slice_rules.specs.Extents.{edge_in}
-use Rattle.pg_slice_rules.specs.Known.{RunShadow, Taken, after_access, after_branch, after_event, after_known, after_op, along_edge, bytes_by, bytes_freed, bytes_stored, caller_target, entered}
-use Rattle.pg_slice_rules.specs.Known.{exit_shadow, from_input, function_in, has, load_of, operand_at, optional_shadow, registers_of, result_in, returned_shadow, set_shadow, started, thread_of}
-use Rattle.pg_slice_rules.specs.Known.{top_of, under_top, with_top, words_after, written_shadow}
+use Rattle.pg_slice_rules.specs.Known.{SymbolicState, Taken, after_access, after_branch, after_event, after_known, after_op, along_edge, bytes_by, bytes_freed, bytes_stored, caller_target, entered}
+use Rattle.pg_slice_rules.specs.Known.{exit_symbolic, from_input, function_in, has, load_of, operand_at, optional_symbolic, registers_of, result_in, returned_symbolic, set_symbolic, started, thread_of}
+use Rattle.pg_slice_rules.specs.Known.{top_of, under_top, with_top, words_after, written_symbolic}
 use Rattle.pg_law_least.specs.Keeps.{MaySetPhis, is_store, may_write}
 use Rattle.pg_law_least.proofs.KeptLikeness.{Outside, forgotten_byte, outside_edge}
 use Rattle.pg_law_least.proofs.LiveSteps.{calls_by, known_bytes, known_words}
@@ -41,10 +41,10 @@ use Rattle.pg_law_demands.proofs.ValuesBefore.{bytes_met, cut_met, edge_met, ent
 use Rattle.pg_law_demands.proofs.ValuesBefore.{values_met}
 
 -- what is asked is met before, and taken
-abbrev pub Asks : Taken → RunShadow → Asked → Type 0
+abbrev pub Asks : Taken → SymbolicState → Asked → Type 0
 Asks e s a = AllByRecursion (IsMet s) a.demands × AllByRecursion (λ (x : Decision). has e x ≡ true) a.decisions
 
-pub outside_index : (rs rt : List Shadow) (i : ℕ) (sets : ℕ → Bool) (r : ℕ) → Outside i sets rs rt → sets (i + r) ≡ false → slice_index_or rt r unset ≡ slice_index_or rs r unset
+pub outside_index : (rs rt : List Symbolic) (i : ℕ) (sets : ℕ → Bool) (r : ℕ) → Outside i sets rs rt → sets (i + r) ≡ false → slice_index_or rt r unset ≡ slice_index_or rs r unset
 outside_index [] [] i sets r h q = refl
 outside_index [] (t ∷ rt) i sets r h q = absurd h
 outside_index (s ∷ rs) [] i sets r h q = absurd h
@@ -72,11 +72,11 @@ next_eq i j = go (i == j) refl
     go true q = q ∙ sym (eq-eqb (suc i) (suc j) (ap suc (eqb-true i j q)))
     go false q = q ∙ sym (eq_false (suc i) (suc j) (λ z. true≢false (sym (eq-eqb i j (omega (arith, z))) ∙ q)))
 
-pub top_is : (k : ℕ) (cs : List (List Shadow)) → length cs ≡ k → call_at k cs ≡ top_of cs
+pub top_is : (k : ℕ) (cs : List (List Symbolic)) → length cs ≡ k → call_at k cs ≡ top_of cs
 top_is k [] q = refl
 top_is k (rs ∷ cs) q = rw (eq-eqb (suc (length cs)) k q) refl
 
-module _ (p : NumberedProgram) (e : Taken) (n : ℕ) (m : Moment) (region : Option FreeRegion) (x : Instr) (s : RunShadow) where
+module _ (p : NumberedProgram) (e : Taken) (n : ℕ) (m : Moment) (region : Option FreeRegion) (x : Instr) (s : SymbolicState) where
   abbrev t : ℕ
   t = thread_in m
 
@@ -85,7 +85,7 @@ module _ (p : NumberedProgram) (e : Taken) (n : ℕ) (m : Moment) (region : Opti
 
   -- ---- a register of the present call
 
-  module _ (rs : List Shadow) (low : List (List Shadow)) (calls : (thread_of s t).calls ≡ rs ∷ low) (high : suc (length low) ≡ k)
+  module _ (rs : List Symbolic) (low : List (List Symbolic)) (calls : (thread_of s t).calls ≡ rs ∷ low) (high : suc (length low) ≡ k)
       (own : (q : FreeRegion) → region ≡ Some q → MaySetPhis p q.sets (edge_in p m (Some x))) (r : ℕ) (whole : Bool) (l : r < length rs) where
     top : call_at k (thread_of s t).calls ≡ rs
     top = ap (call_at k) calls ∙ top_is k (rs ∷ low) high
@@ -93,12 +93,12 @@ module _ (p : NumberedProgram) (e : Taken) (n : ℕ) (m : Moment) (region : Opti
     self : is_met whole (slice_index_or rs r unset) ≡ true → Asks e s (only (register_demand t k r whole ∷ []))
     self h = ((top_met p s t k rs top r whole h, tt), tt)
 
-    at_top : (c : List Shadow) → is_met whole (slice_index_or (call_at k (c ∷ low)) r unset) ≡ true → is_met whole (slice_index_or c r unset) ≡ true
-    at_top c h = subst (λ (z : List Shadow). is_met whole (slice_index_or z r unset) ≡ true) (top_is k (c ∷ low) high) h
+    at_top : (c : List Symbolic) → is_met whole (slice_index_or (call_at k (c ∷ low)) r unset) ≡ true → is_met whole (slice_index_or c r unset) ≡ true
+    at_top c h = subst (λ (z : List Symbolic). is_met whole (slice_index_or z r unset) ≡ true) (top_is k (c ∷ low) high) h
 
-    set_back : (o : Option ℕ) (v : Shadow) (a : Asked) → is_met whole (slice_index_or (set_shadow o v rs) r unset) ≡ true → (is_met whole v ≡ true → Asks e s a) →
+    set_back : (o : Option ℕ) (v : Symbolic) (a : Asked) → is_met whole (slice_index_or (set_symbolic o v rs) r unset) ≡ true → (is_met whole v ≡ true → Asks e s a) →
         Asks e s (if_set (is_target o r) (register_demand t k r whole) a)
-    set_back o v a h f = go (is_target o r) (subst (λ (z : Shadow). is_met whole z ≡ true) (index_set rs o v r l) h)
+    set_back o v a h f = go (is_target o r) (subst (λ (z : Symbolic). is_met whole z ≡ true) (index_set rs o v r l) h)
       where
         go : (b : Bool) → is_met whole (if b then v else slice_index_or rs r unset) ≡ true → Asks e s (if_set b (register_demand t k r whole) a)
         go true h = f h
@@ -117,7 +117,7 @@ module _ (p : NumberedProgram) (e : Taken) (n : ℕ) (m : Moment) (region : Opti
         go true g = rw g (edge_met p s t k rs top x.block.0 edge r whole l h, (f, tt))
         go false g =
             let z : 0 + r ≡ r = omega arith in
-            rw g (self (subst (λ (z : Shadow). is_met whole z ≡ true)
+            rw g (self (subst (λ (z : Symbolic). is_met whole z ≡ true)
             (outside_index rs (along_edge p x.block.0 edge rs) 0 q.sets r (outside_edge p q.sets x.block.0 edge rs (o q refl)) (ap q.sets z ∙ g)) h))
     branch_back false f edge (Some q) o h = go (q.sets r) refl
       where
@@ -125,11 +125,11 @@ module _ (p : NumberedProgram) (e : Taken) (n : ℕ) (m : Moment) (region : Opti
         same = let z : 0 + r ≡ r = omega arith in index_forgotten rs 0 q.sets (Pinned n) r l ∙ ap (λ (j : ℕ). if q.sets j then Unknown (Pinned n) else slice_index_or rs r unset) z
 
         go : (b : Bool) → q.sets r ≡ b → Asks e s (back_branch p t k n x edge (Some q) r whole)
-        go true g = absurd (none_unknown whole (Pinned n) (subst (λ (z : Shadow). is_met whole z ≡ true)
+        go true g = absurd (none_unknown whole (Pinned n) (subst (λ (z : Symbolic). is_met whole z ≡ true)
             (same ∙ ap (λ (b : Bool). if b then Unknown (Pinned n) else slice_index_or rs r unset) g) h))
-        go false g = rw g (self (subst (λ (z : Shadow). is_met whole z ≡ true) (same ∙ ap (λ (b : Bool). if b then Unknown (Pinned n) else slice_index_or rs r unset) g) h))
+        go false g = rw g (self (subst (λ (z : Symbolic). is_met whole z ≡ true) (same ∙ ap (λ (b : Bool). if b then Unknown (Pinned n) else slice_index_or rs r unset) g) h))
 
-    input_met : (z : Shadow) → is_met whole (from_input z) ≡ true → is_met true z ≡ true
+    input_met : (z : Symbolic) → is_met whole (from_input z) ≡ true → is_met true z ≡ true
     input_met (Known f g) h = refl
     input_met (Bounded f y) h = absurd (true≢false (sym h))
     input_met (Unknown y) h = absurd (true≢false (sym h))
@@ -141,7 +141,7 @@ module _ (p : NumberedProgram) (e : Taken) (n : ℕ) (m : Moment) (region : Opti
     known_back known.Malloc number h = set_back x.result _ _ h (λ z. (tt, tt))
     known_back _ number h = self h
 
-    under : (c : List Shadow) → is_met whole (slice_index_or (call_at k (c ∷ rs ∷ low)) r unset) ≡ true → is_met whole (slice_index_or rs r unset) ≡ true
+    under : (c : List Symbolic) → is_met whole (slice_index_or (call_at k (c ∷ rs ∷ low)) r unset) ≡ true → is_met whole (slice_index_or rs r unset) ≡ true
     under c h = at_top rs (subst (λ (b : Bool). is_met whole (slice_index_or (if b then c else call_at k (rs ∷ low)) r unset) ≡ true) (differs (suc (suc (length low)) == k) refl) h)
       where
         differs : (b : Bool) → (suc (suc (length low)) == k) ≡ b → (suc (suc (length low)) == k) ≡ false
@@ -180,14 +180,14 @@ module _ (p : NumberedProgram) (e : Taken) (n : ℕ) (m : Moment) (region : Opti
             let z : r ≡ 0 = eqb-true r 0 q in
             let y : is_target (Some 0) r ≡ true = eq-eqb 0 r (sym z) in (
               (
-                subst (λ (z : Shadow). is_met whole z ≡ true)
+                subst (λ (z : Symbolic). is_met whole z ≡ true)
                     (index_set rs (Some 0) (slice_index_or s.words t unset) r l ∙ ap (λ (b : Bool). if b then slice_index_or s.words t unset else slice_index_or rs r unset) y) h,
                 tt,
               ),
               tt,
             )
         go false false q h =
-            self (subst (λ (z : Shadow). is_met whole z ≡ true)
+            self (subst (λ (z : Symbolic). is_met whole z ≡ true)
             (index_set rs (Some 0) (slice_index_or s.words t unset) r l ∙ ap (λ (b : Bool). if b then slice_index_or s.words t unset else slice_index_or rs r unset) (other (0 == r) refl)) h)
           where
             other : (b : Bool) → (0 == r) ≡ b → (0 == r) ≡ false
@@ -211,9 +211,9 @@ module _ (p : NumberedProgram) (e : Taken) (n : ℕ) (m : Moment) (region : Opti
 
   -- ---- a register of another call of the thread
 
-  module _ (cs : List (List Shadow)) (calls : (thread_of s t).calls ≡ cs) (high : length cs ≡ k) (j : ℕ) (apart : (j ≡ k) → ⊥) (r : ℕ) (whole : Bool) where
+  module _ (cs : List (List Symbolic)) (calls : (thread_of s t).calls ≡ cs) (high : length cs ≡ k) (j : ℕ) (apart : (j ≡ k) → ⊥) (r : ℕ) (whole : Bool) where
     keep : is_met whole (slice_index_or (call_at j cs) r unset) ≡ true → Asks e s (only (register_demand t j r whole ∷ []))
-    keep h = ((subst (λ (c : List (List Shadow)). is_met whole (slice_index_or (call_at j c) r unset) ≡ true) (sym calls) h, tt), tt)
+    keep h = ((subst (λ (c : List (List Symbolic)). is_met whole (slice_index_or (call_at j c) r unset) ≡ true) (sym calls) h, tt), tt)
 
     differs : (i : ℕ) → i ≡ k → (i == j) ≡ false
     differs i q = go (i == j) refl
@@ -222,43 +222,43 @@ module _ (p : NumberedProgram) (e : Taken) (n : ℕ) (m : Moment) (region : Opti
         go false f = f
         go true f = absurd (apart (sym (eqb-true i j f) ∙ q))
 
-    with_top_same : (f : List Shadow → List Shadow) (c : List (List Shadow)) → length c ≡ k → call_at j (with_top f c) ≡ call_at j c
+    with_top_same : (f : List Symbolic → List Symbolic) (c : List (List Symbolic)) → length c ≡ k → call_at j (with_top f c) ≡ call_at j c
     with_top_same f [] q = refl
     with_top_same f (rs ∷ low) q = rw (differs (suc (length low)) q) refl
 
-    keep_top : (f : List Shadow → List Shadow) → is_met whole (slice_index_or (call_at j (with_top f cs)) r unset) ≡ true → Asks e s (only (register_demand t j r whole ∷ []))
-    keep_top f h = keep (subst (λ (c : List Shadow). is_met whole (slice_index_or c r unset) ≡ true) (with_top_same f cs high) h)
+    keep_top : (f : List Symbolic → List Symbolic) → is_met whole (slice_index_or (call_at j (with_top f cs)) r unset) ≡ true → Asks e s (only (register_demand t j r whole ∷ []))
+    keep_top f h = keep (subst (λ (c : List Symbolic). is_met whole (slice_index_or c r unset) ≡ true) (with_top_same f cs high) h)
 
     -- where a call begins
-    call_other : (g : ℕ) (args : List Value) → is_met whole (slice_index_or (call_at j (entered p g (map (shadow_of p (top_of cs)) args) ∷ cs)) r unset) ≡ true →
+    call_other : (g : ℕ) (args : List Value) → is_met whole (slice_index_or (call_at j (entered p g (map (symbolic_of p (top_of cs)) args) ∷ cs)) r unset) ≡ true →
         Asks e s (if j == suc k then only (of_optional t k whole (slice_get args r)) else only (register_demand t j r whole ∷ []))
     call_other g args h = go (suc (length cs) == j) refl (j == suc k) refl h
       where
         go : (b : Bool) → (suc (length cs) == j) ≡ b → (c : Bool) → (j == suc k) ≡ c →
-            is_met whole (slice_index_or (if suc (length cs) == j then entered p g (map (shadow_of p (top_of cs)) args) else call_at j cs) r unset) ≡ true →
+            is_met whole (slice_index_or (if suc (length cs) == j then entered p g (map (symbolic_of p (top_of cs)) args) else call_at j cs) r unset) ≡ true →
             Asks e s (if c then only (of_optional t k whole (slice_get args r)) else only (register_demand t j r whole ∷ []))
         go true f true q h = (
           entered_met p s t k (top_of cs) (ap (call_at k) calls ∙ top_is k cs high) g args r whole
-              (subst (λ (b : Bool). is_met whole (slice_index_or (if b then entered p g (map (shadow_of p (top_of cs)) args) else call_at j cs) r unset) ≡ true) f h),
+              (subst (λ (b : Bool). is_met whole (slice_index_or (if b then entered p g (map (symbolic_of p (top_of cs)) args) else call_at j cs) r unset) ≡ true) f h),
           tt,
         )
         go true f false q h = let z : suc (length cs) ≡ j = eqb-true (suc (length cs)) j f in absurd (true≢false (sym (eq-eqb j (suc k) (sym z ∙ ap suc high)) ∙ q))
         go false f true q h = let z : j ≡ suc k = eqb-true j (suc k) q in absurd (true≢false (sym (eq-eqb (suc (length cs)) j (ap suc high ∙ sym z)) ∙ f))
-        go false f false q h = keep (subst (λ (b : Bool). is_met whole (slice_index_or (if b then entered p g (map (shadow_of p (top_of cs)) args) else call_at j cs) r unset) ≡ true) f h)
+        go false f false q h = keep (subst (λ (b : Bool). is_met whole (slice_index_or (if b then entered p g (map (symbolic_of p (top_of cs)) args) else call_at j cs) r unset) ≡ true) f h)
 
     -- where one returns
-    caller_met : (v : Option Value) (target : Option ℕ) (count : ℕ) (c : List (List Shadow)) → c ≡ cs → count ≡ length (top_of (under_top c)) →
-        is_met whole (slice_index_or (call_at j (with_top (set_shadow target (optional_shadow p (top_of c) v)) (under_top c))) r unset) ≡ true → Asks e s (back_return t k count target j r whole v)
+    caller_met : (v : Option Value) (target : Option ℕ) (count : ℕ) (c : List (List Symbolic)) → c ≡ cs → count ≡ length (top_of (under_top c)) →
+        is_met whole (slice_index_or (call_at j (with_top (set_symbolic target (optional_symbolic p (top_of c) v)) (under_top c))) r unset) ≡ true → Asks e s (back_return t k count target j r whole v)
     caller_met v target count [] q n' h = go (suc j == k) refl
       where
         go : (b : Bool) → (suc j == k) ≡ b → Asks e s (back_return t k count target j r whole v)
         go true f = rw (f, n', none_below r) (tt, tt)
-        go false f = rw f (keep (subst (λ (c : List (List Shadow)). is_met whole (slice_index_or (call_at j c) r unset) ≡ true) q refl))
+        go false f = rw f (keep (subst (λ (c : List (List Symbolic)). is_met whole (slice_index_or (call_at j c) r unset) ≡ true) q refl))
     caller_met v target count (rs ∷ []) q n' h = go (suc j == k) refl
       where
         go : (b : Bool) → (suc j == k) ≡ b → Asks e s (back_return t k count target j r whole v)
         go true f = rw (f, n', none_below r) (tt, tt)
-        go false f = rw f (keep (subst (λ (c : List (List Shadow)). is_met whole (slice_index_or (call_at j c) r unset) ≡ true) q (rw (differs 1 (ap length q ∙ high)) refl)))
+        go false f = rw f (keep (subst (λ (c : List (List Symbolic)). is_met whole (slice_index_or (call_at j c) r unset) ≡ true) q (rw (differs 1 (ap length q ∙ high)) refl)))
     caller_met v target count (rs ∷ ru ∷ low) q n' h = go (suc j == k) refl
       where
         long : suc (suc (length low)) ≡ k
@@ -277,17 +277,17 @@ module _ (p : NumberedProgram) (e : Taken) (n : ℕ) (m : Moment) (region : Opti
             Asks e s (if nat_lt r (length ru) then if_set (is_target target r) (register_demand t j r whole) (only (of_optional t k whole v)) else only [])
         on f false g = rw g (tt, tt)
         on f true g =
-            let i : is_met whole (slice_index_or (set_shadow target (optional_shadow p rs v) ru) r unset) ≡ true = rw f at h in
-            rw g (set (is_target target r) (subst (λ (z : Shadow). is_met whole z ≡ true) (index_set ru target (optional_shadow p rs v) r (ltb-true r (length ru) g)) i))
+            let i : is_met whole (slice_index_or (set_symbolic target (optional_symbolic p rs v) ru) r unset) ≡ true = rw f at h in
+            rw g (set (is_target target r) (subst (λ (z : Symbolic). is_met whole z ≡ true) (index_set ru target (optional_symbolic p rs v) r (ltb-true r (length ru) g)) i))
           where
-            set : (b : Bool) → is_met whole (if b then optional_shadow p rs v else slice_index_or ru r unset) ≡ true →
+            set : (b : Bool) → is_met whole (if b then optional_symbolic p rs v else slice_index_or ru r unset) ≡ true →
                 Asks e s (if_set b (register_demand t j r whole) (only (of_optional t k whole v)))
             set true i = (optional_met p s t k rs top v whole i, tt)
-            set false i = keep (subst (λ (c : List (List Shadow)). is_met whole (slice_index_or (call_at j c) r unset) ≡ true) q (rw (whole_call, f) i))
+            set false i = keep (subst (λ (c : List (List Symbolic)). is_met whole (slice_index_or (call_at j c) r unset) ≡ true) q (rw (whole_call, f) i))
 
         go : (b : Bool) → (suc j == k) ≡ b → Asks e s (back_return t k count target j r whole v)
         go true f = let z : suc j ≡ k = eqb-true (suc j) k f in rw (f, n') (on (eq-eqb (suc (length low)) j (omega (arith, z, long))) (nat_lt r (length ru)) refl)
-        go false f = rw f (keep (subst (λ (c : List (List Shadow)). is_met whole (slice_index_or (call_at j c) r unset) ≡ true) q (same (other (suc (length low) == j) refl))))
+        go false f = rw f (keep (subst (λ (c : List (List Symbolic)). is_met whole (slice_index_or (call_at j c) r unset) ≡ true) q (same (other (suc (length low) == j) refl))))
           where
             other : (b : Bool) → (suc (length low) == j) ≡ b → (suc (length low) == j) ≡ false
             other false g = g
@@ -342,9 +342,9 @@ module _ (p : NumberedProgram) (e : Taken) (n : ℕ) (m : Moment) (region : Opti
           go : (c : Bool) → (e.exact n || a.event) ≡ c → (i : Bool) → is_within (range_of a) b ≡ i → (f : Bool) → is_within (bounds_of a.pointer) b ≡ f →
               is_met whole (bytes_stored p c n a (registers_of s t) (op.Store w v at) s.bytes b) ≡ true → Asks e s (back_store t k n a b whole (op.Store w v at))
           go true c true i f g h =
-              let z : is_met whole (byte_in (b - (range_of a).start) (shadow_of p (registers_of s t) v)) ≡ true = rw i at h in
+              let z : is_met whole (byte_in (b - (range_of a).start) (symbolic_of p (registers_of s t) v)) ≡ true = rw i at h in
               rw i (plain_asks a.event (e.exact n) c refl (of_value t k true v)
-              (value_met p s t k (registers_of s t) own_top v true (cut_met _ whole (shadow_of p (registers_of s t) v) z)))
+              (value_met p s t k (registers_of s t) own_top v true (cut_met _ whole (symbolic_of p (registers_of s t) v) z)))
           go true c false i true g h = let z : is_met whole (s.bytes b) ≡ true = rw i at h in rw (i, g) (plain_asks a.event (e.exact n) c refl (byte_demand b whole ∷ []) (z, tt))
           go true c false i false g h = let z : is_met whole (s.bytes b) ≡ true = rw i at h in rw (i, g) (self_byte z)
           go false c i q true g h = let z : is_met whole (Unknown (Exact n)) ≡ true = rw g at h in absurd (none_unknown whole (Exact n) z)
@@ -352,7 +352,7 @@ module _ (p : NumberedProgram) (e : Taken) (n : ℕ) (m : Moment) (region : Opti
           go false c false i false g h = let z : is_met whole (s.bytes b) ≡ true = rw g at h in rw (i, g) (self_byte z)
       store_back a o fits h = self_byte h
 
-      written_back : (v : Event) (w : Write) (kind : TurnKind) → is_met true (written_shadow v w kind s.words) ≡ true → Asks e s (back_written v kind)
+      written_back : (v : Event) (w : Write) (kind : TurnKind) → is_met true (written_symbolic v w kind s.words) ≡ true → Asks e s (back_written v kind)
       written_back v w turns.Join h = ((h, tt), tt)
       written_back v w _ h = (tt, tt)
 
@@ -362,8 +362,8 @@ module _ (p : NumberedProgram) (e : Taken) (n : ℕ) (m : Moment) (region : Opti
         where
           go : (i : Bool) → is_within (range_of (write_by w)) b ≡ i → Asks e s (back_write v (Some w) b whole)
           go true i =
-              let z : is_met whole (byte_in (b - (range_of (write_by w)).start) (written_shadow v w v.kind s.words)) ≡ true = rw i at h in
-              rw i (written_back v w v.kind (cut_met _ whole (written_shadow v w v.kind s.words) z))
+              let z : is_met whole (byte_in (b - (range_of (write_by w)).start) (written_symbolic v w v.kind s.words)) ≡ true = rw i at h in
+              rw i (written_back v w v.kind (cut_met _ whole (written_symbolic v w v.kind s.words) z))
           go false i = let z : is_met whole (s.bytes b) ≡ true = rw i at h in rw i (self_byte z)
 
       freed_back : (c : Bool) → e.pinned n ≡ c → (o : Option FreeRegion) → is_met whole (bytes_freed c n o s.bytes b) ≡ true → Asks e s (back_freed n o b whole)
@@ -374,7 +374,7 @@ module _ (p : NumberedProgram) (e : Taken) (n : ℕ) (m : Moment) (region : Opti
           go : (i : Bool) → may_write q.accesses b ≡ i → Asks e s (back_freed n (Some q) b whole)
           go true i = rw i ((h, tt), (f, tt))
           go false i = rw i (self_byte h)
-      freed_back false f (Some q) h = go (may_write q.accesses b) refl (subst (λ (z : Shadow). is_met whole z ≡ true) (forgotten_byte q.accesses (Pinned n) s.bytes b) h)
+      freed_back false f (Some q) h = go (may_write q.accesses b) refl (subst (λ (z : Symbolic). is_met whole z ≡ true) (forgotten_byte q.accesses (Pinned n) s.bytes b) h)
         where
           go : (i : Bool) → may_write q.accesses b ≡ i → is_met whole (if may_write q.accesses b then Unknown (Pinned n) else s.bytes b) ≡ true → Asks e s (back_freed n (Some q) b whole)
           go true i h = let z : is_met whole (Unknown (Pinned n)) ≡ true = rw i at h in absurd (none_unknown whole (Pinned n) z)
@@ -393,7 +393,7 @@ module _ (p : NumberedProgram) (e : Taken) (n : ℕ) (m : Moment) (region : Opti
       self_word : is_met whole (slice_index_or s.words w unset) ≡ true → Asks e s (only (word_demand w whole ∷ []))
       self_word h = ((h, tt), tt)
 
-      returned_back : (v : Option Value) → is_met whole (returned_shadow p (registers_of s t) v) ≡ true → Asks e s (only (of_optional t k whole v))
+      returned_back : (v : Option Value) → is_met whole (returned_symbolic p (registers_of s t) v) ≡ true → Asks e s (only (of_optional t k whole v))
       returned_back None h = (tt, tt)
       returned_back (Some v) h = (value_met p s t k (registers_of s t) own_top v whole h, tt)
 
@@ -404,26 +404,26 @@ module _ (p : NumberedProgram) (e : Taken) (n : ℕ) (m : Moment) (region : Opti
           go true h = (tt, tt)
           go false h = (operand_met p s t k (registers_of s t) own_top o 0 whole h, tt)
 
-      exit_back : (o : Op) → is_met whole (exit_shadow p t (registers_of s t) o) ≡ true → Asks e s (back_exit t k whole o)
+      exit_back : (o : Op) → is_met whole (exit_symbolic p t (registers_of s t) o) ≡ true → Asks e s (back_exit t k whole o)
       exit_back (op.Ret v) h = returned_back v h
       exit_back o h = other_exit o h
 
-      exited_back : (o : Op) → is_met whole (slice_index_or (slice_set s.words t (exit_shadow p t (registers_of s t) o)) w unset) ≡ true →
+      exited_back : (o : Op) → is_met whole (slice_index_or (slice_set s.words t (exit_symbolic p t (registers_of s t) o)) w unset) ≡ true →
           Asks e s (if w == t then (if nat_lt w (length s.words) then back_exit t k whole o else only []) else only (word_demand w whole ∷ []))
       exited_back o h = go (w == t) refl
         where
           on : w ≡ t → (b : Bool) → nat_lt w (length s.words) ≡ b → Asks e s (if b then back_exit t k whole o else only [])
           on q false f = (tt, tt)
-          on q true f = exit_back o (subst (λ (z : Shadow). is_met whole z ≡ true)
-              (index_set s.words (Some t) (exit_shadow p t (registers_of s t) o) w (ltb-true w (length s.words) f)
-              ∙ ap (λ (b : Bool). if b then exit_shadow p t (registers_of s t) o else slice_index_or s.words w unset) (eq-eqb t w (sym q))) h)
+          on q true f = exit_back o (subst (λ (z : Symbolic). is_met whole z ≡ true)
+              (index_set s.words (Some t) (exit_symbolic p t (registers_of s t) o) w (ltb-true w (length s.words) f)
+              ∙ ap (λ (b : Bool). if b then exit_symbolic p t (registers_of s t) o else slice_index_or s.words w unset) (eq-eqb t w (sym q))) h)
 
           go : (b : Bool) → (w == t) ≡ b → Asks e s (if b then (if nat_lt w (length s.words) then back_exit t k whole o else only []) else only (word_demand w whole ∷ []))
           go true f = on (eqb-true w t f) (nat_lt w (length s.words)) refl
-          go false f = self_word (subst (λ (z : Shadow). is_met whole z ≡ true)
-              (get_or-set_other s.words t w (exit_shadow p t (registers_of s t) o) unset (λ z. true≢false (sym (eq-eqb w t z) ∙ f))) h)
+          go false f = self_word (subst (λ (z : Symbolic). is_met whole z ≡ true)
+              (get_or-set_other s.words t w (exit_symbolic p t (registers_of s t) o) unset (λ z. true≢false (sym (eq-eqb w t z) ∙ f))) h)
 
-      index_pushed : (xs : List Shadow) (z : Shadow) (i : ℕ) → slice_index_or (xs ++ z ∷ []) i unset ≡ (if i == length xs then z else slice_index_or xs i unset)
+      index_pushed : (xs : List Symbolic) (z : Symbolic) (i : ℕ) → slice_index_or (xs ++ z ∷ []) i unset ≡ (if i == length xs then z else slice_index_or xs i unset)
       index_pushed [] z zero = refl
       index_pushed [] z (suc i) = rw (eq_false (suc i) 0 (λ q. omega (arith, q))) refl
       index_pushed (y ∷ xs) z zero = rw (eq_false 0 (suc (length xs)) (λ q. omega (arith, q))) refl
@@ -431,7 +431,7 @@ module _ (p : NumberedProgram) (e : Taken) (n : ℕ) (m : Moment) (region : Opti
 
       created_back : (o : Op) → is_met whole (slice_index_or (s.words ++ operand_at p (registers_of s t) o 3 ∷ []) w unset) ≡ true →
           Asks e s (if w == length s.words then only (of_operand t k whole o 3) else only (word_demand w whole ∷ []))
-      created_back o h = go (w == length s.words) (subst (λ (z : Shadow). is_met whole z ≡ true) (index_pushed s.words (operand_at p (registers_of s t) o 3) w) h)
+      created_back o h = go (w == length s.words) (subst (λ (z : Symbolic). is_met whole z ≡ true) (index_pushed s.words (operand_at p (registers_of s t) o 3) w) h)
         where
           go : (b : Bool) → is_met whole (if b then operand_at p (registers_of s t) o 3 else slice_index_or s.words w unset) ≡ true →
               Asks e s (if b then only (of_operand t k whole o 3) else only (word_demand w whole ∷ []))

@@ -4,8 +4,8 @@ use Rattle.std.specs.Prelude.{Contains, slice_get}
 use Rattle.std.specs.List.{AllByRecursion}
 use Rattle.pg_slice_rules.specs.declared.decision.Decision.{Decision}
 use Rattle.pg_slice_rules.specs.Moments.{Moment}
-use Rattle.pg_slice_rules.specs.Shadows.{Shadow}
-use Rattle.pg_slice_rules.specs.Known.{Reference, RunShadow, Seen, Taken, after_step, has, seen_from, start_of}
+use Rattle.pg_slice_rules.specs.SymbolicValues.{Symbolic}
+use Rattle.pg_slice_rules.specs.Known.{Reference, SymbolicState, Seen, Taken, after_step, has, seen_from, start_of}
 use Rattle.pg_slice_rules.specs.Closed.{AreWithin, IsClosed}
 use Rattle.pg_law_least.specs.Keeps.{ExtentsKeep, every, steps_of}
 use Rattle.pg_region_paths.proofs.Elements.{here, there}
@@ -27,8 +27,8 @@ all_where : {A : Type 0} (P : A → Type 0) (xs : List A) → ((x : A) → Conta
 all_where P [] h = tt
 all_where P (x ∷ xs) h = (h x (here x xs), all_where P xs (λ z c. h z (there x xs z c)))
 
-module _ (R : Reference) (keeps : ExtentsKeep R) (d e : Taken) (within : AreWithin d e) (bound : ℕ) (L : Shadow → Shadow → Type 0) (link : IsLink e every bound L) where
-  due_from : (i n : ℕ) (s u : RunShadow) (ms : List Moment) → n + length ms ≤ bound → IsRun R keeps e bound L link s u →
+module _ (R : Reference) (keeps : ExtentsKeep R) (d e : Taken) (within : AreWithin d e) (bound : ℕ) (L : Symbolic → Symbolic → Type 0) (link : IsLink e every bound L) where
+  due_from : (i n : ℕ) (s u : SymbolicState) (ms : List Moment) → n + length ms ≤ bound → IsRun R keeps e bound L link s u →
       ((z : Seen) → Contains (seen_from R every n u ms) z → Contains (steps_of R) z) → ((z : Seen) → Contains (seen_from R e n s ms) z → Closes R e z) → (y : Seen) (a : Asked) →
       slice_get (seen_from R every n u ms) i ≡ Some y → Asks e (known_from R e n s (take (suc i) ms)) a → Asks e (known_from R e n s (take i ms)) (before_step R d y a)
   unfolding seen_from known_from

@@ -23,10 +23,10 @@ use Rattle.pg_slice_rules.specs.declared.decision.Decision.{Decision}
 use Rattle.pg_slice_rules.specs.declared.decision.Decision.TheVariants.{Pinned, Exact}
 use Rattle.pg_slice_rules.specs.Moments.{Moment, instr_in, thread_in}
 use Rattle.pg_slice_rules.specs.Freeable.{FreeAccess, FreeRegion}
-use Rattle.pg_slice_rules.specs.Shadows.{Shadow, Known, Bounded, Unknown, blames, bounds_blames, loaded}
-use Rattle.pg_slice_rules.specs.Known.{Reference, RunShadow, Seen, Taken, has, is_branch, operand_at, registers_of, thread_of}
+use Rattle.pg_slice_rules.specs.SymbolicValues.{Symbolic, Known, Bounded, Unknown, blames, bounds_blames, loaded}
+use Rattle.pg_slice_rules.specs.Known.{Reference, SymbolicState, Seen, Taken, has, is_branch, operand_at, registers_of, thread_of}
 use Rattle.pg_slice_rules.specs.Rules.{Need, Value, Bounds, access_needs_by, access_needs_in, address_index, all_of, asks_pins, checked_of, edge_tests, equal_to, event_needs, bounds_needs}
-use Rattle.pg_slice_rules.specs.Rules.{free_access_needs, has_region, is_malloc, moved_shadow, need_blames, operand_of, path_needs, region_needs_in, root_shadow, same_bounds, value_needs}
+use Rattle.pg_slice_rules.specs.Rules.{free_access_needs, has_region, is_malloc, moved_symbolic, need_blames, operand_of, path_needs, region_needs_in, root_symbolic, same_bounds, value_needs}
 use Rattle.pg_slice_rules.specs.Rules.{value_needs_by, value_needs_in, write_index, write_needs}
 use Rattle.pg_slice_rules.specs.Closed.{AreWithin}
 use Rattle.pg_region_paths.proofs.Elements.{here, there}
@@ -41,12 +41,12 @@ use Rattle.pg_law_demands.proofs.DemandsBack.{top_is}
 abbrev pub IsQuiet : List Need → Type 0
 IsQuiet ns = (a : Need) → Contains ns a → (z : Decision) → Contains (need_blames a) z → ⊥
 
-value_quiet : (s : Shadow) → ((z : Decision) → Contains (blames s) z → ⊥) → is_met true s ≡ true
+value_quiet : (s : Symbolic) → ((z : Decision) → Contains (blames s) z → ⊥) → is_met true s ≡ true
 value_quiet (Known f g) q = refl
 value_quiet (Bounded f x) q = absurd (q x (here x []))
 value_quiet (Unknown x) q = absurd (q x (here x []))
 
-bounds_quiet : (s : Shadow) → ((z : Decision) → Contains (bounds_blames s) z → ⊥) → is_met false s ≡ true
+bounds_quiet : (s : Symbolic) → ((z : Decision) → Contains (bounds_blames s) z → ⊥) → is_met false s ≡ true
 bounds_quiet (Known f g) q = refl
 bounds_quiet (Bounded f x) q = refl
 bounds_quiet (Unknown x) q = absurd (q x (here x []))
@@ -63,13 +63,13 @@ left_quiet ns ms q b c z d = q b (Contains-append_left ns ms b c) z d
 right_quiet : (ns ms : List Need) → IsQuiet (ns ++ ms) → IsQuiet ms
 right_quiet ns ms q b c z d = q b (Contains-append_right ns ms b c) z d
 
-one_value : (v : Shadow) (ts : List Test) → IsQuiet (Value v ts ∷ []) → is_met true v ≡ true
+one_value : (v : Symbolic) (ts : List Test) → IsQuiet (Value v ts ∷ []) → is_met true v ≡ true
 one_value v ts q = value_quiet v (first_quiet (Value v ts) [] q)
 
-one_bounds : (v : Shadow) (t : Test) → IsQuiet (Bounds v t ∷ []) → is_met false v ≡ true
+one_bounds : (v : Symbolic) (t : Test) → IsQuiet (Bounds v t ∷ []) → is_met false v ≡ true
 one_bounds v t q = bounds_quiet v (first_quiet (Bounds v t) [] q)
 
-moved_value : (k : ℕ) (s : Shadow) → is_met true (moved_shadow k s) ≡ true → is_met true s ≡ true
+moved_value : (k : ℕ) (s : Symbolic) → is_met true (moved_symbolic k s) ≡ true → is_met true s ≡ true
 moved_value k (Known f g) h = refl
 moved_value k (Bounded f x) h = h
 moved_value k (Unknown x) h = h
@@ -83,7 +83,7 @@ taken_if true true w q h = refl
 taken_if true false w q h = absurd (h w (here w []))
 taken_if false c w q h = absurd (true≢false (sym q))
 
-module _ (R : Reference) (d e : Taken) (within : AreWithin d e) (n : ℕ) (m : Moment) (region : Option FreeRegion) (s : RunShadow)
+module _ (R : Reference) (d e : Taken) (within : AreWithin d e) (n : ℕ) (m : Moment) (region : Option FreeRegion) (s : SymbolicState)
     (high : length (thread_of s (thread_in m)).calls ≡ length m.calls) where
   abbrev x : Seen
   x = record { number = n; moment = m; region = region; live = true; before = s }
@@ -146,12 +146,12 @@ module _ (R : Reference) (d e : Taken) (within : AreWithin d e) (n : ℕ) (m : M
   instr_own None q a = tt
   instr_own (Some i) q a = kind_own i m.did.did.kind q a
 
-  root_own : (o : Root) (whole : Bool) → is_met whole (root_shadow R.program (registers_of s (thread_in m)) o) ≡ true → AreMet (root_demands z o whole)
+  root_own : (o : Root) (whole : Bool) → is_met whole (root_symbolic R.program (registers_of s (thread_in m)) o) ≡ true → AreMet (root_demands z o whole)
   unfolding AreMet
   root_own (root.Register r) whole h = (top_met R.program s (thread_in m) (length m.calls) (registers_of s (thread_in m)) top r whole h, tt)
   root_own _ whole h = tt
 
-  path_own : (word : Bool → List Demand) (v : Shadow) → ((whole : Bool) → is_met whole v ≡ true → AreMet (word whole))
+  path_own : (word : Bool → List Demand) (v : Symbolic) → ((whole : Bool) → is_met whole v ≡ true → AreMet (word whole))
       → (offsets words : List ℕ) (cells : List ByteRange) (last : ℕ) →
       IsQuiet (path_needs s.bytes v offsets words cells last) → AreMet (path_demands word offsets words cells)
   unfolding AreMet
@@ -159,16 +159,16 @@ module _ (R : Reference) (d e : Taken) (within : AreWithin d e) (n : ℕ) (m : M
   path_own word v f (k ∷ offsets) [] cells last q = f false (one_bounds v (same_bounds last) q)
   path_own word v f (k ∷ offsets) (w ∷ words) [] last q = f false (one_bounds v (same_bounds last) q)
   path_own word v f (k ∷ offsets) (w ∷ words) (cell ∷ cells) last q = append_all (IsMet s) (word true) (path_demands (λ whole. of_bytes cell.start 8) offsets words cells)
-      (f true (moved_value k v (value_quiet (moved_shadow k v)
-      (first_quiet (Value (moved_shadow k v) (Eq (moved_by w (pos k)) ∷ [])) (path_needs s.bytes (loaded s.bytes cell.start 8) offsets words cells last) q))))
+      (f true (moved_value k v (value_quiet (moved_symbolic k v)
+      (first_quiet (Value (moved_symbolic k v) (Eq (moved_by w (pos k)) ∷ [])) (path_needs s.bytes (loaded s.bytes cell.start 8) offsets words cells last) q))))
       (path_own (λ whole. of_bytes cell.start 8) (loaded s.bytes cell.start 8) (λ whole h. bytes_met s whole cell.start 8 h) offsets words cells last
-      (rest_quiet (Value (moved_shadow k v) (Eq (moved_by w (pos k)) ∷ [])) (path_needs s.bytes (loaded s.bytes cell.start 8) offsets words cells last) q))
+      (rest_quiet (Value (moved_symbolic k v) (Eq (moved_by w (pos k)) ∷ [])) (path_needs s.bytes (loaded s.bytes cell.start 8) offsets words cells last) q))
 
   accesses_own : (xs : List FreeAccess) → IsQuiet (all_of (free_access_needs R.program x) xs) → AreMet (all_of (free_access_demands z) xs)
   unfolding AreMet
   accesses_own [] q = tt
   accesses_own (a ∷ xs) q = append_all (IsMet s) (free_access_demands z a) (all_of (free_access_demands z) xs)
-      (path_own (root_demands z a.path.root) (root_shadow R.program (registers_of s (thread_in m)) a.path.root) (λ whole h. root_own a.path.root whole h)
+      (path_own (root_demands z a.path.root) (root_symbolic R.program (registers_of s (thread_in m)) a.path.root) (λ whole h. root_own a.path.root whole h)
       (offsets_of a.path.loads) a.at.pointers a.at.cells a.at.last (left_quiet (free_access_needs R.program x a) (all_of (free_access_needs R.program x) xs) q))
       (accesses_own xs (right_quiet (free_access_needs R.program x a) (all_of (free_access_needs R.program x) xs) q))
 

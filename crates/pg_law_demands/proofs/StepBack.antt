@@ -10,9 +10,9 @@ use Rattle.pg_run_trace.specs.declared.step.Access.{Access}
 use Rattle.pg_run_trace.specs.Steps.{range_of}
 use Rattle.pg_slice_rules.specs.Moments.{Moment, instr_in, thread_in}
 use Rattle.pg_slice_rules.specs.Freeable.{FreeRegion, bounds_of}
-use Rattle.pg_slice_rules.specs.Shadows.{Shadow, is_within, unset}
+use Rattle.pg_slice_rules.specs.SymbolicValues.{Symbolic, is_within, unset}
 use Rattle.pg_slice_rules.specs.Extents.{Extent, edge_in, is_live}
-use Rattle.pg_slice_rules.specs.Known.{Reference, RunShadow, Seen, Taken, ThreadShadow, after_step, is_branch, no_thread, region_of, registers_of, thread_of, top_of, under_top}
+use Rattle.pg_slice_rules.specs.Known.{Reference, SymbolicState, Seen, Taken, SymbolicThread, after_step, is_branch, no_thread, region_of, registers_of, thread_of, top_of, under_top}
 use Rattle.pg_law_least.specs.Keeps.{ExtentsKeep, MaySetPhis, every, is_store, steps_of}
 use Rattle.pg_law_least.proofs.AlikeLists.{length_like}
 use Rattle.pg_law_least.proofs.KeptLikeness.{IsLink}
@@ -23,7 +23,7 @@ use Rattle.pg_law_least.proofs.KnownCallCounts.{region_branch}
 use Rattle.pg_law_least.proofs.LeftUnknown.{branch_plain}
 use Rattle.pg_law_least.proofs.LiveStepsInside.{none_above, plain_edge}
 use Rattle.pg_law_least.proofs.AlikeKnowledge.{RunLike, ThreadLike}
-use Rattle.pg_law_demands.specs.Cells.{Byte, Cell, Demand, IsMet, Register, Word, call_at, cell_shadow, is_met}
+use Rattle.pg_law_demands.specs.Cells.{Byte, Cell, Demand, IsMet, Register, Word, call_at, cell_symbolic, is_met}
 use Rattle.pg_law_demands.specs.Back.{back, back_cell, back_other, back_top, caller_count, only, register_count, register_demand}
 use Rattle.pg_law_demands.proofs.DemandsBack.{Asks, byte_back, kind_back, other_back, word_back}
 
@@ -32,7 +32,7 @@ past_end [] i z l = refl
 past_end (x ∷ xs) zero z l = absurd (omega (arith, l))
 past_end (x ∷ xs) (suc i) z l = past_end xs i z (omega (arith, l))
 
-pub callers_long : (L : Shadow → Shadow → Type 0) (cs ct : List (List Shadow)) → AllZip (AllZip L) cs ct → length (top_of (under_top ct)) ≡ length (top_of (under_top cs))
+pub callers_long : (L : Symbolic → Symbolic → Type 0) (cs ct : List (List Symbolic)) → AllZip (AllZip L) cs ct → length (top_of (under_top ct)) ≡ length (top_of (under_top cs))
 callers_long L [] [] h = refl
 callers_long L [] (rt ∷ ct) h = absurd h
 callers_long L (rs ∷ cs) [] h = absurd h
@@ -42,10 +42,10 @@ callers_long L (rs ∷ rv ∷ cs) (rt ∷ []) h = absurd h.1
 callers_long L (rs ∷ rv ∷ cs) (rt ∷ ru ∷ ct) h = sym (length_like L rv ru h.1.0)
 
 -- step n, with what is known before it
-abbrev pub seen_with : Reference → ℕ → Moment → Bool → RunShadow → Seen
+abbrev pub seen_with : Reference → ℕ → Moment → Bool → SymbolicState → Seen
 seen_with R n m live s = record { number = n; moment = m; region = region_of R.program R.regions m (instr_in R.program m); live = live; before = s }
 
-abbrev pub of_every : Reference → ℕ → Moment → RunShadow → Seen
+abbrev pub of_every : Reference → ℕ → Moment → SymbolicState → Seen
 of_every R n m u = seen_with R n m (is_live every.pinned (thread_of u (thread_in m)).extents) u
 
 -- a step in the run in which all is known, its thread and region, and the thread's calls by what is known under some decisions
@@ -54,10 +54,10 @@ pub record Here : Type 0 where
   pub y : Seen
   pub t : ℕ
   pub region : Option FreeRegion
-  pub cs : List (List Shadow)
-  pub cu : List (List Shadow)
+  pub cs : List (List Symbolic)
+  pub cu : List (List Symbolic)
 
-abbrev pub here_at : Reference → ℕ → Moment → RunShadow → RunShadow → Here
+abbrev pub here_at : Reference → ℕ → Moment → SymbolicState → SymbolicState → Here
 here_at R n m s u = record {
   y = of_every R n m u;
   t = thread_in m;
@@ -67,19 +67,19 @@ here_at R n m s u = record {
 }
 
 -- what is known of other threads' registers stays
-pub other_thread : (R : Reference) (e : Taken) (n : ℕ) (m : Moment) (s : RunShadow) (i j r : ℕ) (whole : Bool) → (i ≡ thread_in m → ⊥)
+pub other_thread : (R : Reference) (e : Taken) (n : ℕ) (m : Moment) (s : SymbolicState) (i j r : ℕ) (whole : Bool) → (i ≡ thread_in m → ⊥)
     → IsMet (after_step R e n m s) (register_demand i j r whole) → IsMet s (register_demand i j r whole)
 other_thread R e n m s i j r whole o h = go (cases_lt i (length s.threads))
   where
     go : (i < length s.threads) ⊎ (length s.threads ≤ i) → IsMet s (register_demand i j r whole)
-    go (inl l) = subst (λ (z : ThreadShadow). is_met whole (slice_index_or (call_at j z.calls) r unset) ≡ true) (thread_other R e n m s i o l) h
-    go (inr l) = subst (λ (z : ThreadShadow). is_met whole (slice_index_or (call_at j z.calls) r unset) ≡ true) (sym (past_end s.threads i no_thread l)) refl
+    go (inl l) = subst (λ (z : SymbolicThread). is_met whole (slice_index_or (call_at j z.calls) r unset) ≡ true) (thread_other R e n m s i o l) h
+    go (inr l) = subst (λ (z : SymbolicThread). is_met whole (slice_index_or (call_at j z.calls) r unset) ≡ true) (sym (past_end s.threads i no_thread l)) refl
 
-module _ (R : Reference) (keeps : ExtentsKeep R) (e : Taken) (bound : ℕ) (L : Shadow → Shadow → Type 0) (link : IsLink e every bound L) where
-  abbrev pub IsRun : RunShadow → RunShadow → Type 0
+module _ (R : Reference) (keeps : ExtentsKeep R) (e : Taken) (bound : ℕ) (L : Symbolic → Symbolic → Type 0) (link : IsLink e every bound L) where
+  abbrev pub IsRun : SymbolicState → SymbolicState → Type 0
   IsRun s u = RunLike R keeps e every bound L link s u u
 
-  module _ (n : ℕ) (m : Moment) (s u : RunShadow) (like : IsRun s u)
+  module _ (n : ℕ) (m : Moment) (s u : SymbolicState) (like : IsRun s u)
       (in_run : Contains (steps_of R) (of_every R n m u))
       (live : is_live e.pinned (thread_of u (thread_in m)).extents ≡ true) where
     open here_at R n m s u use {y, t, region, cs, cu}
@@ -119,7 +119,7 @@ module _ (R : Reference) (keeps : ExtentsKeep R) (e : Taken) (bound : ℕ) (L : 
 
     calls_now : (o : Option Instr) → instr_in R.program m ≡ o → (thread_of (after_step R e n m s) t).calls ≡ calls_after R.program e n m region o s cs
     calls_now o q =
-        ap (λ (h : ThreadShadow). h.calls) (thread_own R e n m s begun_before)
+        ap (λ (h : SymbolicThread). h.calls) (thread_own R e n m s begun_before)
         ∙ ap (λ (b : Bool). own_calls R.program e n m region s b (instr_in R.program m)) live_before
         ∙ ap (λ (o : Option Instr). calls_after R.program e n m region o s cs) q
 
@@ -136,7 +136,7 @@ module _ (R : Reference) (keeps : ExtentsKeep R) (e : Taken) (bound : ℕ) (L : 
         ∙ ap (λ (o : Option Instr). words_behind R.program m o s) q
 
     module _ (x : Instr) (stands : instr_in R.program m ≡ Some x) where
-      present : (r : ℕ) (whole : Bool) (c : List (List Shadow)) → cs ≡ c → r < length (top_of c) →
+      present : (r : ℕ) (whole : Bool) (c : List (List Symbolic)) → cs ≡ c → r < length (top_of c) →
           is_met whole (slice_index_or (call_at (length m.calls) (calls_by R.program e n m region x m.did.did.kind s c)) r unset) ≡ true →
           Asks e s (back_top R.program t (length m.calls) n m region x r whole m.did.did.kind)
       present r whole [] q l h = absurd (omega (arith, l))
@@ -164,30 +164,30 @@ module _ (R : Reference) (keeps : ExtentsKeep R) (e : Taken) (bound : ℕ) (L : 
           let q : i ≡ t = eqb-true i t f in
           let z : is_met whole (slice_index_or (call_at j (thread_of (after_step R e n m s) t).calls) r unset) ≡ true =
           subst (λ (i : ℕ). is_met whole (slice_index_or (call_at j (thread_of (after_step R e n m s) i).calls) r unset) ≡ true) q h in
-          own_register j r whole (subst (λ (c : List (List Shadow)). is_met whole (slice_index_or (call_at j c) r unset) ≡ true) (calls_now (Some x) stands) z)
+          own_register j r whole (subst (λ (c : List (List Symbolic)). is_met whole (slice_index_or (call_at j c) r unset) ≡ true) (calls_now (Some x) stands) z)
           (j == length m.calls) refl (nat_lt r (length (registers_of u t))) refl
 
-      cell_back : (whole : Bool) (c : Cell) → is_met whole (cell_shadow (after_step R e n m s) c) ≡ true → Asks e s (back_cell R.program y x whole c)
+      cell_back : (whole : Bool) (c : Cell) → is_met whole (cell_symbolic (after_step R e n m s) c) ≡ true → Asks e s (back_cell R.program y x whole c)
       cell_back whole (Register i j r) h = register_back i j r whole h (i == t) refl
       cell_back whole (Byte b) h = byte_back R.program e n m region x s high b whole m.did.did.kind (fits x stands b)
-          (subst (λ (f : ℕ → Shadow). is_met whole (f b) ≡ true) (bytes_now (Some x) stands) h)
+          (subst (λ (f : ℕ → Symbolic). is_met whole (f b) ≡ true) (bytes_now (Some x) stands) h)
       cell_back whole (Word w) h =
           rw words_long (word_back R.program e n m region x s high w whole m.did.did.kind
-          (subst (λ (ws : List Shadow). is_met whole (slice_index_or ws w unset) ≡ true) (words_now (Some x) stands) h))
+          (subst (λ (ws : List Symbolic). is_met whole (slice_index_or ws w unset) ≡ true) (words_now (Some x) stands) h))
 
     -- where there is no instruction
-    same_cell : instr_in R.program m ≡ None → (whole : Bool) (c : Cell) → is_met whole (cell_shadow (after_step R e n m s) c) ≡ true → is_met whole (cell_shadow s c) ≡ true
+    same_cell : instr_in R.program m ≡ None → (whole : Bool) (c : Cell) → is_met whole (cell_symbolic (after_step R e n m s) c) ≡ true → is_met whole (cell_symbolic s c) ≡ true
     same_cell q whole (Register i j r) h = go (i == t) refl
       where
-        go : (b : Bool) → (i == t) ≡ b → is_met whole (cell_shadow s (Register i j r)) ≡ true
+        go : (b : Bool) → (i == t) ≡ b → is_met whole (cell_symbolic s (Register i j r)) ≡ true
         go false f = other_thread R e n m s i j r whole (λ q. true≢false (sym (eq-eqb i t q) ∙ f)) h
         go true f =
             let z : i ≡ t = eqb-true i t f in
             subst (λ (i : ℕ). is_met whole (slice_index_or (call_at j (thread_of s i).calls) r unset) ≡ true) (sym z)
-            (subst (λ (c : List (List Shadow)). is_met whole (slice_index_or (call_at j c) r unset) ≡ true) (calls_now None q)
+            (subst (λ (c : List (List Symbolic)). is_met whole (slice_index_or (call_at j c) r unset) ≡ true) (calls_now None q)
             (subst (λ (i : ℕ). is_met whole (slice_index_or (call_at j (thread_of (after_step R e n m s) i).calls) r unset) ≡ true) z h))
-    same_cell q whole (Byte b) h = subst (λ (f : ℕ → Shadow). is_met whole (f b) ≡ true) (bytes_now None q) h
-    same_cell q whole (Word w) h = subst (λ (ws : List Shadow). is_met whole (slice_index_or ws w unset) ≡ true) (words_now None q) h
+    same_cell q whole (Byte b) h = subst (λ (f : ℕ → Symbolic). is_met whole (f b) ≡ true) (bytes_now None q) h
+    same_cell q whole (Word w) h = subst (λ (ws : List Symbolic). is_met whole (slice_index_or ws w unset) ≡ true) (words_now None q) h
 
     -- a demand that is met after the step asks for what is met before it, and for decisions that are taken
     pub step_back : (q : Demand) → IsMet (after_step R e n m s) q → Asks e s (back R.program y (instr_in R.program m) q)

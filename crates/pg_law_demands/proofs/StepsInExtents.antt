@@ -9,9 +9,9 @@ use Rattle.pg_ir.specs.declared.instr.Instr.{Instr}
 use Rattle.pg_slice_rules.specs.declared.decision.Decision.TheVariants.{Pinned}
 use Rattle.pg_slice_rules.specs.Moments.{Moment, instr_in}
 use Rattle.pg_slice_rules.specs.Freeable.{FreeRegion}
-use Rattle.pg_slice_rules.specs.Shadows.{Shadow, unset}
+use Rattle.pg_slice_rules.specs.SymbolicValues.{Symbolic, unset}
 use Rattle.pg_slice_rules.specs.Extents.{Extent, edge_in, is_live}
-use Rattle.pg_slice_rules.specs.Known.{Reference, RunShadow, Taken, ThreadShadow, after_step, start_of, thread_of, top_of}
+use Rattle.pg_slice_rules.specs.Known.{Reference, SymbolicState, Taken, SymbolicThread, after_step, start_of, thread_of, top_of}
 use Rattle.pg_law_least.specs.Keeps.{ExtentsKeep, KeepsTo, MaySetPhis, every, may_write, steps_of}
 use Rattle.pg_law_least.proofs.AlikeLists.{length_like}
 use Rattle.pg_law_least.proofs.KeptLikeness.{IsLink}
@@ -20,7 +20,7 @@ use Rattle.pg_law_least.proofs.ThreadsAfterSteps.{bytes_next, live_at, own_bytes
 use Rattle.pg_law_least.proofs.OldestFreeExtent.{height_by, live_stand, not_live, stand, stand_in}
 use Rattle.pg_law_least.proofs.LiveStepsInside.{bytes_kept, plain_edge, words_kept}
 use Rattle.pg_law_least.proofs.AlikeKnowledge.{Still, ThreadLike}
-use Rattle.pg_law_demands.specs.Cells.{Byte, Cell, Demand, IsMet, Register, Word, call_at, cell_shadow, is_met}
+use Rattle.pg_law_demands.specs.Cells.{Byte, Cell, Demand, IsMet, Register, Word, call_at, cell_symbolic, is_met}
 use Rattle.pg_law_demands.specs.Passed.{count_at, first_free, may_set_cell, passes_cell, passing, passing_by, region_at_step, sets_any}
 use Rattle.pg_law_demands.proofs.ValuesBefore.{none_unknown}
 use Rattle.pg_law_demands.proofs.DemandsBack.{top_is}
@@ -39,8 +39,8 @@ not_true : (b : Bool) → not b ≡ true → b ≡ false
 not_true false q = refl
 not_true true q = sym q
 
-module _ (R : Reference) (keeps : ExtentsKeep R) (e : Taken) (bound : ℕ) (L : Shadow → Shadow → Type 0) (link : IsLink e every bound L) where
-  module _ (n : ℕ) (m : Moment) (s u : RunShadow) (like : IsRun R keeps e bound L link s u)
+module _ (R : Reference) (keeps : ExtentsKeep R) (e : Taken) (bound : ℕ) (L : Symbolic → Symbolic → Type 0) (link : IsLink e every bound L) where
+  module _ (n : ℕ) (m : Moment) (s u : SymbolicState) (like : IsRun R keeps e bound L link s u)
       (in_run : Contains (steps_of R) (of_every R n m u)) where
     open here_at R n m s u use {y, t, region, cs, cu}
 
@@ -54,7 +54,7 @@ module _ (R : Reference) (keeps : ExtentsKeep R) (e : Taken) (bound : ℕ) (L : 
     begun_before = let a = keeps.known y in_run in let b = like.fewer in omega (arith, a, b)
 
     calls_now : (b : Bool) → live_at R e n m s ≡ b → (thread_of (after_step R e n m s) t).calls ≡ own_calls R.program e n m region s b (instr_in R.program m)
-    calls_now b q = ap (λ (h : ThreadShadow). h.calls) (thread_own R e n m s begun_before) ∙ ap (λ (b : Bool). own_calls R.program e n m region s b (instr_in R.program m)) q
+    calls_now b q = ap (λ (h : SymbolicThread). h.calls) (thread_own R e n m s begun_before) ∙ ap (λ (b : Bool). own_calls R.program e n m region s b (instr_in R.program m)) q
 
     bytes_now : (b : Bool) → live_at R e n m s ≡ b → (after_step R e n m s).bytes ≡ own_bytes R.program e n m region s b (instr_in R.program m)
     bytes_now b q = bytes_next R e n m s ∙ ap (λ (b : Bool). own_bytes R.program e n m region s b (instr_in R.program m)) q
@@ -81,12 +81,12 @@ module _ (R : Reference) (keeps : ExtentsKeep R) (e : Taken) (bound : ℕ) (L : 
       count_is =
           let a : length cs ≡ length own.above.low = length_like (λ xs ys. AllZip L xs ys) cs own.above.low own.above.like in
           let b : length own.above.low ≡ x.depth = sym a ∙ low_calls in
-          ap (λ (c : List (List Shadow)). length (call_at x.depth c)) own.above.whole
+          ap (λ (c : List (List Symbolic)). length (call_at x.depth c)) own.above.whole
           ∙ (ap length (call_below own.above.more own.above.low x.depth b)
           ∙ (ap length (top_is x.depth own.above.low b)
           ∙ sym (length_like L (top_of cs) (top_of own.above.low) (top_like R.program e every bound L link cs own.above.low own.above.like))))
 
-      unmet : (whole : Bool) (c : Cell) → may_set_cell st.region t x.depth (count_at y x.depth) c ≡ true → is_met whole (cell_shadow (after_step R e n m s) c) ≡ true → ⊥
+      unmet : (whole : Bool) (c : Cell) → may_set_cell st.region t x.depth (count_at y x.depth) c ≡ true → is_met whole (cell_symbolic (after_step R e n m s) c) ≡ true → ⊥
       unmet whole (Register i j r) q h =
           let a = and_parts ((i == t) && (j == x.depth)) (nat_lt r (count_at y x.depth) && st.region.sets r) q in
           let b = and_parts (i == t) (j == x.depth) a.0 in
@@ -98,14 +98,14 @@ module _ (R : Reference) (keeps : ExtentsKeep R) (e : Taken) (bound : ℕ) (L : 
           subst (λ (i : ℕ). is_met whole (slice_index_or (call_at j (thread_of (after_step R e n m s) i).calls) r unset) ≡ true) v h in
           let g : is_met whole (slice_index_or (call_at x.depth cs) r unset) ≡ true =
           subst (λ (j : ℕ). is_met whole (slice_index_or (call_at j cs) r unset) ≡ true) w
-          (subst (λ (c : List (List Shadow)). is_met whole (slice_index_or (call_at j c) r unset) ≡ true) (calls_now false dead) f) in
+          (subst (λ (c : List (List Symbolic)). is_met whole (slice_index_or (call_at j c) r unset) ≡ true) (calls_now false dead) f) in
           let k : is_met whole (slice_index_or (top_of cs) r unset) ≡ true =
-          subst (λ (c : List Shadow). is_met whole (slice_index_or c r unset) ≡ true) (top_is x.depth cs low_calls) g in
+          subst (λ (c : List Symbolic). is_met whole (slice_index_or c r unset) ≡ true) (top_is x.depth cs low_calls) g in
           none_unknown whole (Pinned x.step)
-          (subst (λ (z : Shadow). is_met whole z ≡ true) (forgotten_top cs st.region.sets (Pinned x.step) r st.registers (omega (arith, l, count_is)) c.1) k)
+          (subst (λ (z : Symbolic). is_met whole z ≡ true) (forgotten_top cs st.region.sets (Pinned x.step) r st.registers (omega (arith, l, count_is)) c.1) k)
       unmet whole (Byte b) q h =
           none_unknown whole (Pinned x.step)
-          (subst (λ (z : Shadow). is_met whole z ≡ true) (st.writes b q) (subst (λ (f : ℕ → Shadow). is_met whole (f b) ≡ true) (bytes_now false dead) h))
+          (subst (λ (z : Symbolic). is_met whole z ≡ true) (st.writes b q) (subst (λ (f : ℕ → Symbolic). is_met whole (f b) ≡ true) (bytes_now false dead) h))
       unmet whole (Word w) q h = true≢false (sym q)
 
       none_set : (qs : List Demand) → AllByRecursion (IsMet (after_step R e n m s)) qs →
@@ -167,26 +167,26 @@ module _ (R : Reference) (keeps : ExtentsKeep R) (e : Taken) (bound : ℕ) (L : 
       word_before true None = refl
       word_before true (Some z) = words_kept R.program m z m.did.did.kind keep.plain s
 
-      kept_cell : (whole : Bool) (c : Cell) → passes_cell q t x.depth c ≡ true → is_met whole (cell_shadow (after_step R e n m s) c) ≡ true → is_met whole (cell_shadow s c) ≡ true
+      kept_cell : (whole : Bool) (c : Cell) → passes_cell q t x.depth c ≡ true → is_met whole (cell_symbolic (after_step R e n m s) c) ≡ true → is_met whole (cell_symbolic s c) ≡ true
       kept_cell whole (Register i j r) p h = go (i == t) refl p
         where
           part : nat_lt j x.depth ≡ true ⊎ ((j == x.depth) && not (q.sets r)) ≡ true → (j < x.depth) ⊎ ((j ≡ x.depth) × (q.sets r ≡ false))
           part (inl a) = inl (ltb-true j x.depth a)
           part (inr a) = let b = and_parts (j == x.depth) (not (q.sets r)) a in inr (eqb-true j x.depth b.0, not_true (q.sets r) b.1)
 
-          go : (b : Bool) → (i == t) ≡ b → (not b || (nat_lt j x.depth || ((j == x.depth) && not (q.sets r)))) ≡ true → is_met whole (cell_shadow s (Register i j r)) ≡ true
+          go : (b : Bool) → (i == t) ≡ b → (not b || (nat_lt j x.depth || ((j == x.depth) && not (q.sets r)))) ≡ true → is_met whole (cell_symbolic s (Register i j r)) ≡ true
           go false f p = other_thread R e n m s i j r whole (λ z. true≢false (sym (eq-eqb i t z) ∙ f)) h
           go true f p =
               let v : i ≡ t = eqb-true i t f in
               let w : is_met whole (slice_index_or (call_at j (own_calls R.program e n m region s (live_at R e n m s) (instr_in R.program m))) r unset) ≡ true =
-              subst (λ (c : List (List Shadow)). is_met whole (slice_index_or (call_at j c) r unset) ≡ true) (calls_now (live_at R e n m s) refl)
+              subst (λ (c : List (List Symbolic)). is_met whole (slice_index_or (call_at j c) r unset) ≡ true) (calls_now (live_at R e n m s) refl)
               (subst (λ (i : ℕ). is_met whole (slice_index_or (call_at j (thread_of (after_step R e n m s) i).calls) r unset) ≡ true) v h) in
               subst (λ (i : ℕ). is_met whole (slice_index_or (call_at j (thread_of s i).calls) r unset) ≡ true) (sym v)
-              (subst (λ (z : Shadow). is_met whole z ≡ true)
+              (subst (λ (z : Symbolic). is_met whole z ≡ true)
               (register_before (live_at R e n m s) refl (instr_in R.program m) refl j r (part (or_cases (nat_lt j x.depth) ((j == x.depth) && not (q.sets r)) p))) w)
-      kept_cell whole (Byte b) p h = subst (λ (z : Shadow). is_met whole z ≡ true)
-          (ap (λ (f : ℕ → Shadow). f b) (bytes_now (live_at R e n m s) refl) ∙ byte_before (live_at R e n m s) (instr_in R.program m) refl b (not_true (may_write q.accesses b) p)) h
-      kept_cell whole (Word w) p h = subst (λ (ws : List Shadow). is_met whole (slice_index_or ws w unset) ≡ true)
+      kept_cell whole (Byte b) p h = subst (λ (z : Symbolic). is_met whole z ≡ true)
+          (ap (λ (f : ℕ → Symbolic). f b) (bytes_now (live_at R e n m s) refl) ∙ byte_before (live_at R e n m s) (instr_in R.program m) refl b (not_true (may_write q.accesses b) p)) h
+      kept_cell whole (Word w) p h = subst (λ (ws : List Symbolic). is_met whole (slice_index_or ws w unset) ≡ true)
           (words_now (live_at R e n m s) refl ∙ word_before (live_at R e n m s) (instr_in R.program m)) h
 
     pub passing_met : (pinned : ℕ → Bool) (qs : List Demand) → AllByRecursion (IsMet (after_step R e n m s)) qs → AllByRecursion (IsMet s) (passing R y (first_free pinned es) qs)

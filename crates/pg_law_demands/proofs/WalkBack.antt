@@ -6,9 +6,9 @@ use Rattle.std.proofs.lemmas.Bool.{true≢false, and_parts, or_cases, eqb-true}
 use Rattle.pg_slice_rules.specs.declared.decision.Decision.{Decision}
 use Rattle.pg_slice_rules.specs.declared.decision.Decision.TheVariants.{Pinned, Exact}
 use Rattle.pg_slice_rules.specs.Moments.{Moment, instr_in, thread_in}
-use Rattle.pg_slice_rules.specs.Shadows.{Shadow}
+use Rattle.pg_slice_rules.specs.SymbolicValues.{Symbolic}
 use Rattle.pg_slice_rules.specs.Extents.{Extent, is_live}
-use Rattle.pg_slice_rules.specs.Known.{Reference, RunShadow, Seen, Taken, after_step, has, region_of, seen_from, seen_in, start_of, thread_of}
+use Rattle.pg_slice_rules.specs.Known.{Reference, SymbolicState, Seen, Taken, after_step, has, region_of, seen_from, seen_in, start_of, thread_of}
 use Rattle.pg_slice_rules.specs.Rules.{all_of, asks_bounds, asks_pins, asks_values, bounds_needs, need_blames, value_needs}
 use Rattle.pg_slice_rules.specs.Closed.{AreWithin, IsClosed}
 use Rattle.pg_law_least.specs.Keeps.{ExtentsKeep, every, steps_of}
@@ -82,8 +82,8 @@ closes R e closed x c = record {
   bounds = λ a i z k. none_asked (asks_bounds R) (seen_in R e) x closed.bounds c z (of_all need_blames (bounds_needs R x) a z i k);
 }
 
-module _ (R : Reference) (keeps : ExtentsKeep R) (d e : Taken) (within : AreWithin d e) (bound : ℕ) (L : Shadow → Shadow → Type 0) (link : IsLink e every bound L) where
-  module _ (n : ℕ) (m : Moment) (s u : RunShadow) (like : IsRun R keeps e bound L link s u) where
+module _ (R : Reference) (keeps : ExtentsKeep R) (d e : Taken) (within : AreWithin d e) (bound : ℕ) (L : Symbolic → Symbolic → Type 0) (link : IsLink e every bound L) where
+  module _ (n : ℕ) (m : Moment) (s u : SymbolicState) (like : IsRun R keeps e bound L link s u) where
     abbrev y : Seen
     y = record {
       number = n;
@@ -157,7 +157,7 @@ module _ (R : Reference) (keeps : ExtentsKeep R) (d e : Taken) (within : AreWith
       pub step_met : (a : Asked) → Asks e (after_step R e n m s) a → Asks e s (before_step R d y a)
       step_met a h = either_met (with_pins R d y (thread_of u (thread_in m)).extents a) (pinned_met (thread_of u (thread_in m)).extents (λ o q. q) a h)
 
-  walk_met : (n : ℕ) (s u : RunShadow) (ms : List Moment) → n + length ms ≤ bound → IsRun R keeps e bound L link s u →
+  walk_met : (n : ℕ) (s u : SymbolicState) (ms : List Moment) → n + length ms ≤ bound → IsRun R keeps e bound L link s u →
       ((z : Seen) → Contains (seen_from R every n u ms) z → Contains (steps_of R) z) → ((z : Seen) → Contains (seen_from R e n s ms) z → Closes R e z) →
       Asks e s (asked_from R d (seen_from R every n u ms))
   unfolding seen_from asked_from

@@ -3,7 +3,7 @@ use Rattle.std.specs.Prelude.{◌≡◌, ℕ, suc, List, [], ◌∷◌, Contains
 use Rattle.std.specs.List.{AllByRecursion}
 use Rattle.pg_slice_rules.specs.declared.decision.Decision.{Decision}
 use Rattle.pg_slice_rules.specs.Closed.{AreWithin, IsClosed}
-use Rattle.pg_slice_rules.specs.Known.{Reference, RunShadow, Seen, Taken, after_step, has, start_of}
+use Rattle.pg_slice_rules.specs.Known.{Reference, SymbolicState, Seen, Taken, after_step, has, start_of}
 use Rattle.pg_slice_rules.specs.Moments.{Moment}
 use Rattle.pg_law_least.specs.Keeps.{steps_of}
 use Rattle.pg_law_demands.specs.Cells.{Demand, IsMet}
@@ -11,12 +11,12 @@ use Rattle.pg_law_demands.specs.Back.{Asked}
 use Rattle.pg_law_demands.specs.Demands.{and_those, before_step, demanded}
 
 -- after these steps, of which the first has number n
-unfoldable pub known_from : Reference → Taken → ℕ → RunShadow → List Moment → RunShadow
+unfoldable pub known_from : Reference → Taken → ℕ → SymbolicState → List Moment → SymbolicState
 known_from R d n s [] = s
 known_from R d n s (m ∷ ms) = known_from R d (suc n) (after_step R d n m s) ms
 
 -- before step n
-abbrev pub known_at : Reference → Taken → ℕ → RunShadow
+abbrev pub known_at : Reference → Taken → ℕ → SymbolicState
 known_at R d n = known_from R d 0 (start_of R.program) (take n R.moments)
 
 -- under each larger closed set the demands are met before step n, and the decisions are taken

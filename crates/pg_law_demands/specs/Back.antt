@@ -22,7 +22,7 @@ use Rattle.pg_slice_rules.specs.declared.decision.Decision.{Decision}
 use Rattle.pg_slice_rules.specs.declared.decision.Decision.TheVariants.{Pinned, Exact}
 use Rattle.pg_slice_rules.specs.Moments.{Moment, thread_in}
 use Rattle.pg_slice_rules.specs.Freeable.{FreeRegion, bounds_of}
-use Rattle.pg_slice_rules.specs.Shadows.{is_within}
+use Rattle.pg_slice_rules.specs.SymbolicValues.{is_within}
 use Rattle.pg_slice_rules.specs.Extents.{edge_in}
 use Rattle.pg_slice_rules.specs.Known.{Seen, caller_target, function_in, thread_of, top_of, under_top}
 use Rattle.pg_slice_rules.specs.Rules.{all_of, kind_in, registers_before}

@@ -21,9 +21,9 @@ use Rattle.pg_run.proofs.Threads.{set_length}
 use Rattle.pg_slice_rules.specs.Moments.{Moment, instr_in, thread_in}
 use Rattle.pg_slice_rules.specs.Extents.{Extent, is_live, open_after}
 use Rattle.pg_slice_rules.specs.Freeable.{FreeRegion}
-use Rattle.pg_slice_rules.specs.Shadows.{Shadow, unset}
+use Rattle.pg_slice_rules.specs.SymbolicValues.{Symbolic, unset}
 use Rattle.pg_slice_rules.specs.Known as known
-use Rattle.pg_slice_rules.specs.Known.{Reference, RunShadow, ThreadShadow, after_event, after_op, after_step, edge_of, fresh_thread, live_after, live_by, no_thread, on_thread, region_of}
+use Rattle.pg_slice_rules.specs.Known.{Reference, SymbolicState, SymbolicThread, after_event, after_op, after_step, edge_of, fresh_thread, live_after, live_by, no_thread, on_thread, region_of}
 use Rattle.pg_slice_rules.specs.Known.{thread_of, threads_after, under_top, with_extents, with_top}
 use Rattle.pg_law_least.specs.Keeps.{every}
 use Rattle.pg_run_trace.specs.Steps.{range_of}
@@ -32,11 +32,11 @@ use Rattle.pg_law_instances.proofs.DoneSteps.{AddsThread, TellsPlain}
 
 -- ---- calls
 
-top_length : (f : List Shadow → List Shadow) (calls : List (List Shadow)) → length (with_top f calls) ≡ length calls
+top_length : (f : List Symbolic → List Symbolic) (calls : List (List Symbolic)) → length (with_top f calls) ≡ length calls
 top_length f [] = refl
 top_length f (rs ∷ calls) = refl
 
-under_length : (calls : List (List Shadow)) (n : ℕ) → length calls ≡ suc n → length (under_top calls) ≡ n
+under_length : (calls : List (List Symbolic)) (n : ℕ) → length calls ≡ suc n → length (under_top calls) ≡ n
 under_length [] n e = absurd (omega (arith, e))
 under_length (rs ∷ calls) n e = omega (arith, e)
 
@@ -44,12 +44,12 @@ returned_length : (p : NumberedProgram) (below : List Frame) (n : ℕ) → lengt
 returned_length p [] n = refl
 returned_length p (f ∷ fs) n = refl
 
-module _ (p : NumberedProgram) (n : ℕ) (m : Moment) (region : Option FreeRegion) (result : ℕ) (x : Instr) (calls : List (List Shadow)) (f : Frame) (below : List Frame)
+module _ (p : NumberedProgram) (n : ℕ) (m : Moment) (region : Option FreeRegion) (result : ℕ) (x : Instr) (calls : List (List Symbolic)) (f : Frame) (below : List Frame)
     (size : length calls ≡ length (f ∷ below)) where
-  abbrev after_it : Op → List (List Shadow)
+  abbrev after_it : Op → List (List Symbolic)
   after_it o = after_op p true n m region result x o calls
 
-  same_size : (g : List Shadow → List Shadow) (fs : List Frame) → length fs ≡ length (f ∷ below) → length (with_top g calls) ≡ length fs
+  same_size : (g : List Symbolic → List Symbolic) (fs : List Frame) → length fs ≡ length (f ∷ below) → length (with_top g calls) ≡ length fs
   same_size g fs e = top_length g calls ∙ size ∙ sym e
 
   along_length : (o : Op) (fs : List Frame) → GoesAlong p f below x.block.0 o fs → length (after_it o) ≡ length fs
@@ -79,7 +79,7 @@ module _ (p : NumberedProgram) (n : ℕ) (m : Moment) (region : Option FreeRegio
   op_length o fs (inr (inr (inl a))) = back_length o fs a
   op_length o fs (inr (inr (inr a))) = past_length o fs a
 
-event_length : (p : NumberedProgram) (m : Moment) (e : Event) (argument : Shadow) (x : Instr) (calls : List (List Shadow)) (before fs : List Frame) (r : Request)
+event_length : (p : NumberedProgram) (m : Moment) (e : Event) (argument : Symbolic) (x : Instr) (calls : List (List Symbolic)) (before fs : List Frame) (r : Request)
     → length calls ≡ length before → RequestMoves before r fs → length (after_event p m e (kind_of r) argument x calls) ≡ length fs
 event_length p m e argument x calls before fs requests.Start s h = top_length _ calls ∙ s ∙ sym h
 event_length p m e argument x calls before fs (requests.Exit v k) s h = ap (λ (l : List Frame). length l) (sym h)
@@ -106,26 +106,26 @@ last_length [] y = omega arith
 last_length (x ∷ xs) y = let h = last_length xs y in omega (arith, h)
 
 -- at the end a new thread or none
-pub record Grown (ts us : List ThreadShadow) (t : ℕ) (calls : List (List Shadow)) : Type 0 where
+pub record Grown (ts us : List SymbolicThread) (t : ℕ) (calls : List (List Symbolic)) : Type 0 where
   pub own : (slice_index_or us t no_thread).calls ≡ calls
   pub others : (u : ℕ) → u ≢ t → u < length ts → slice_index_or us u no_thread ≡ slice_index_or ts u no_thread
   pub past : (u : ℕ) → length ts ≤ u → ((slice_index_or us u no_thread).extents ≡ []) × (u < length us → length (slice_index_or us u no_thread).calls ≡ 1)
   pub more : length ts ≤ length us
 
-grown_on : (g : List (List Shadow) → List (List Shadow)) (t : ℕ) (ts : List ThreadShadow) → t < length ts → Grown ts (on_thread g t ts) t (g (slice_index_or ts t no_thread).calls)
+grown_on : (g : List (List Symbolic) → List (List Symbolic)) (t : ℕ) (ts : List SymbolicThread) → t < length ts → Grown ts (on_thread g t ts) t (g (slice_index_or ts t no_thread).calls)
 grown_on g t ts lt =
     let n = set_length ts t (record (slice_index_or ts t no_thread) { calls = g (slice_index_or ts t no_thread).calls }) in
     record {
-      own = ap (λ (th : ThreadShadow). th.calls) (get_or-set_same ts t (record (slice_index_or ts t no_thread) { calls = g (slice_index_or ts t no_thread).calls }) no_thread lt);
+      own = ap (λ (th : SymbolicThread). th.calls) (get_or-set_same ts t (record (slice_index_or ts t no_thread) { calls = g (slice_index_or ts t no_thread).calls }) no_thread lt);
       others = λ u ne l. get_or-set_other ts t u (record (slice_index_or ts t no_thread) { calls = g (slice_index_or ts t no_thread).calls }) no_thread ne;
-      past = λ u le. (ap (λ (th : ThreadShadow). th.extents) (get_or_past (on_thread g t ts) u no_thread (omega (arith, n, le))), λ l. absurd (omega (arith, n, le, l)));
+      past = λ u le. (ap (λ (th : SymbolicThread). th.extents) (get_or_past (on_thread g t ts) u no_thread (omega (arith, n, le))), λ l. absurd (omega (arith, n, le, l)));
       more = omega (arith, n);
     }
 
-grown_last : (p : NumberedProgram) (k : ℕ) (ts us : List ThreadShadow) (t : ℕ) (calls : List (List Shadow)) → t < length ts → length us ≡ length ts → Grown ts us t calls
+grown_last : (p : NumberedProgram) (k : ℕ) (ts us : List SymbolicThread) (t : ℕ) (calls : List (List Symbolic)) → t < length ts → length us ≡ length ts → Grown ts us t calls
     → Grown ts (us ++ fresh_thread p k ∷ []) t calls
 grown_last p k ts us t calls lt n h = record {
-  own = ap (λ (th : ThreadShadow). th.calls) (at_front us (fresh_thread p k) no_thread t (omega (arith, lt, n))) ∙ h.own;
+  own = ap (λ (th : SymbolicThread). th.calls) (at_front us (fresh_thread p k) no_thread t (omega (arith, lt, n))) ∙ h.own;
   others = λ u ne l. at_front us (fresh_thread p k) no_thread u (omega (arith, l, n)) ∙ h.others u ne l;
   past = λ u le. go u le (at_last us (fresh_thread p k) no_thread u (omega (arith, le, n)));
   more = let m = last_length us (fresh_thread p k) in omega (arith, m, n);
@@ -134,38 +134,38 @@ grown_last p k ts us t calls lt n h = record {
     go : (u : ℕ) → length ts ≤ u → (get_or (us ++ fresh_thread p k ∷ []) u no_thread ≡ fresh_thread p k) ⊎ (get_or (us ++ fresh_thread p k ∷ []) u no_thread ≡ no_thread) →
         ((slice_index_or (us ++ fresh_thread p k ∷ []) u no_thread).extents ≡ [])
         × (u < length (us ++ fresh_thread p k ∷ []) → length (slice_index_or (us ++ fresh_thread p k ∷ []) u no_thread).calls ≡ 1)
-    go u le (inl e) = (ap (λ (th : ThreadShadow). th.extents) e, λ l. ap (λ (th : ThreadShadow). length th.calls) e)
-    go u le (inr e) = (ap (λ (th : ThreadShadow). th.extents) e, λ l. in_range u le l)
+    go u le (inl e) = (ap (λ (th : SymbolicThread). th.extents) e, λ l. ap (λ (th : SymbolicThread). length th.calls) e)
+    go u le (inr e) = (ap (λ (th : SymbolicThread). th.extents) e, λ l. in_range u le l)
       where
-        fresh_there : (xs : List ThreadShadow) (u : ℕ) → length xs ≤ u → u < length (xs ++ fresh_thread p k ∷ []) → get_or (xs ++ fresh_thread p k ∷ []) u no_thread ≡ fresh_thread p k
+        fresh_there : (xs : List SymbolicThread) (u : ℕ) → length xs ≤ u → u < length (xs ++ fresh_thread p k ∷ []) → get_or (xs ++ fresh_thread p k ∷ []) u no_thread ≡ fresh_thread p k
         fresh_there [] zero le l = refl
         fresh_there [] (suc u) le l = absurd (omega (arith, l))
         fresh_there (x ∷ xs) zero le l = absurd (omega arith)
         fresh_there (x ∷ xs) (suc u) le l = fresh_there xs u (omega arith) (omega (arith, l))
 
         in_range : (u : ℕ) → length ts ≤ u → u < length (us ++ fresh_thread p k ∷ []) → length (slice_index_or (us ++ fresh_thread p k ∷ []) u no_thread).calls ≡ 1
-        in_range u le l = ap (λ (th : ThreadShadow). length th.calls) (fresh_there us u (omega (arith, le, n)) l)
+        in_range u le l = ap (λ (th : SymbolicThread). length th.calls) (fresh_there us u (omega (arith, le, n)) l)
 
 -- the extents of a thread are set
-pub record Extended (ts us : List ThreadShadow) (t : ℕ) (calls : List (List Shadow)) (es : List Extent) : Type 0 where
+pub record Extended (ts us : List SymbolicThread) (t : ℕ) (calls : List (List Symbolic)) (es : List Extent) : Type 0 where
   pub own_calls : (slice_index_or us t no_thread).calls ≡ calls
   pub own_extents : (slice_index_or us t no_thread).extents ≡ es
   pub others : (u : ℕ) → u ≢ t → u < length ts → slice_index_or us u no_thread ≡ slice_index_or ts u no_thread
   pub past : (u : ℕ) → length ts ≤ u → ((slice_index_or us u no_thread).extents ≡ []) × (u < length us → length (slice_index_or us u no_thread).calls ≡ 1)
 
-pub extended : (ts us : List ThreadShadow) (t : ℕ) (calls : List (List Shadow)) (es : List Extent) → t < length ts → Grown ts us t calls → Extended ts (with_extents t es us) t calls es
+pub extended : (ts us : List SymbolicThread) (t : ℕ) (calls : List (List Symbolic)) (es : List Extent) → t < length ts → Grown ts us t calls → Extended ts (with_extents t es us) t calls es
 extended ts us t calls es lt g =
-    let v : ThreadShadow = record (slice_index_or us t no_thread) { extents = es } in
+    let v : SymbolicThread = record (slice_index_or us t no_thread) { extents = es } in
     let n = set_length us t v in
     let more = g.more in
     let own = get_or-set_same us t v no_thread (omega (arith, lt, more)) in
     record {
-      own_calls = ap (λ (th : ThreadShadow). th.calls) own ∙ g.own;
-      own_extents = ap (λ (th : ThreadShadow). th.extents) own;
+      own_calls = ap (λ (th : SymbolicThread). th.calls) own ∙ g.own;
+      own_extents = ap (λ (th : SymbolicThread). th.extents) own;
       others = λ u ne l. get_or-set_other us t u v no_thread ne ∙ g.others u ne l;
       past = λ u le.
           let q = get_or-set_other us t u v no_thread (λ e. omega (arith, lt, le, e)) in
-          (ap (λ (th : ThreadShadow). th.extents) q ∙ (g.past u le).0, λ l. ap (λ (th : ThreadShadow). length th.calls) q ∙ (g.past u le).1 (omega (arith, n, l)));
+          (ap (λ (th : SymbolicThread). th.extents) q ∙ (g.past u le).0, λ l. ap (λ (th : SymbolicThread). length th.calls) q ∙ (g.past u le).1 (omega (arith, n, l)));
     }
 
 -- a create adds a thread
@@ -185,19 +185,19 @@ live_always [] = refl
 live_always (e ∷ es) = live_always es
 
 -- the machine's threads and those of what is known are as many, with as many calls
-pub record Match (w : RunShadow) (s : State) : Type 0 where
+pub record Match (w : SymbolicState) (s : State) : Type 0 where
   pub count : length w.threads ≡ length s.locals
   pub calls : (u : ℕ) (l : LocalState) → slice_get s.locals u ≡ Some l → length (thread_of w u).calls ≡ length l.frames
 
 -- what a step makes of the threads
-pub record Walked (w v : RunShadow) (t : ℕ) (frames : List Frame) (es : List Extent) (size : ℕ) : Type 0 where
+pub record Walked (w v : SymbolicState) (t : ℕ) (frames : List Frame) (es : List Extent) (size : ℕ) : Type 0 where
   pub own_calls : length (thread_of v t).calls ≡ length frames
   pub own_extents : (thread_of v t).extents ≡ es
   pub others : (u : ℕ) → u ≢ t → u < length w.threads → thread_of v u ≡ thread_of w u
   pub past : (u : ℕ) → length w.threads ≤ u → ((thread_of v u).extents ≡ []) × (u < length v.threads → length (thread_of v u).calls ≡ 1)
   pub count : length v.threads ≡ size
 
-module _ (R : Reference) (n : ℕ) (m : Moment) (w : RunShadow) (i : Instr) (at : instr_in R.program m ≡ Some i) (lt : thread_in m < length w.threads) where
+module _ (R : Reference) (n : ℕ) (m : Moment) (w : SymbolicState) (i : Instr) (at : instr_in R.program m ≡ Some i) (lt : thread_in m < length w.threads) where
   abbrev p : NumberedProgram
   p = R.program
 
@@ -210,7 +210,7 @@ module _ (R : Reference) (n : ℕ) (m : Moment) (w : RunShadow) (i : Instr) (at 
   abbrev es : List Extent
   es = open_after n (length m.calls) region (edge_of p m m.did.did.kind) (thread_of w t).extents
 
-  abbrev live : RunShadow
+  abbrev live : SymbolicState
   live = live_by p every n m region i m.did.did.kind w
 
   step_is : after_step R every n m w ≡ record live { threads = with_extents t es live.threads }
@@ -220,17 +220,17 @@ module _ (R : Reference) (n : ℕ) (m : Moment) (w : RunShadow) (i : Instr) (at 
 
   -- ---- the threads of the live step, by what it tells
 
-  abbrev live_at : StepKind → RunShadow
+  abbrev live_at : StepKind → SymbolicState
   live_at k = live_by p every n m region i k w
 
   -- the threads grow to so many, this one's calls to those of the frames
   pub record Lives (k : StepKind) (frames : List Frame) (size : ℕ) : Type 0 where
-    pub calls : List (List Shadow)
+    pub calls : List (List Symbolic)
     pub grown : Grown w.threads (live_at k).threads t calls
     pub length_is : length calls ≡ length frames
     pub size_is : length (live_at k).threads ≡ size
 
-  on_length : (g : List (List Shadow) → List (List Shadow)) → length (on_thread g t w.threads) ≡ length w.threads
+  on_length : (g : List (List Symbolic) → List (List Symbolic)) → length (on_thread g t w.threads) ≡ length w.threads
   on_length g = set_length w.threads t (record (slice_index_or w.threads t no_thread) { calls = g (slice_index_or w.threads t no_thread).calls })
 
   load_moves : (f : Frame) (below fs : List Frame) (o : Op) → IsLoad o → Moves p f below i o fs → length fs ≡ length (f ∷ below)
@@ -251,10 +251,10 @@ module _ (R : Reference) (n : ℕ) (m : Moment) (w : RunShadow) (i : Instr) (at 
       → (live_at k).threads ≡ on_thread (after_op p true n m region (known.result_in k) i i.op) t w.threads → Lives k fs (length w.threads)
   lives_op k f below fs size v e = record {
     calls = after_op p true n m region (known.result_in k) i i.op (thread_of w t).calls;
-    grown = subst (λ (ts : List ThreadShadow). Grown w.threads ts t (after_op p true n m region (known.result_in k) i i.op (thread_of w t).calls)) (sym e)
+    grown = subst (λ (ts : List SymbolicThread). Grown w.threads ts t (after_op p true n m region (known.result_in k) i i.op (thread_of w t).calls)) (sym e)
         (grown_on (after_op p true n m region (known.result_in k) i i.op) t w.threads lt);
     length_is = op_length p n m region (known.result_in k) i (thread_of w t).calls f below size i.op fs v;
-    size_is = ap (λ (ts : List ThreadShadow). length ts) e ∙ on_length (after_op p true n m region (known.result_in k) i i.op);
+    size_is = ap (λ (ts : List SymbolicThread). length ts) e ∙ on_length (after_op p true n m region (known.result_in k) i i.op);
   }
 
   pub lives_plain : (b : Bool) (k : StepKind) (f : Frame) (below fs : List Frame) → length (thread_of w t).calls ≡ length (f ∷ below) → TellsPlain b i.op k → Moves p f below i i.op fs
@@ -275,10 +275,10 @@ module _ (R : Reference) (n : ℕ) (m : Moment) (w : RunShadow) (i : Instr) (at 
       same (inr c) = store_moves f below fs i.op c.0 v
 
   -- a request
-  abbrev asked_threads : Event → TurnKind → List ThreadShadow
+  abbrev asked_threads : Event → TurnKind → List SymbolicThread
   asked_threads e k = threads_after p e k (on_thread (after_event p m e k (slice_index_or w.words t unset) i) t w.threads)
 
-  abbrev asked_calls : Event → TurnKind → List (List Shadow)
+  abbrev asked_calls : Event → TurnKind → List (List Symbolic)
   asked_calls e k = after_event p m e k (slice_index_or w.words t unset) i (thread_of w t).calls
 
   record Asked (e : Event) (k : TurnKind) (frames : List Frame) (size : ℕ) : Type 0 where
@@ -289,7 +289,7 @@ module _ (R : Reference) (n : ℕ) (m : Moment) (w : RunShadow) (i : Instr) (at 
   asked_by : (e : Event) (r : Request) (before fs : List Frame) (size : ℕ) → length (thread_of w t).calls ≡ length before → RequestMoves before r fs → Adds (length w.threads) r size
       → Asked e (kind_of r) fs size
   asked_by e (requests.Create at g v) before fs size c h k =
-      let f : List (List Shadow) → List (List Shadow) = after_event p m e (kind_of (requests.Create at g v)) (slice_index_or w.words t unset) i in
+      let f : List (List Symbolic) → List (List Symbolic) = after_event p m e (kind_of (requests.Create at g v)) (slice_index_or w.words t unset) i in
       record {
         grown = grown_last p (slice_index e.operands 2) w.threads (on_thread f t w.threads) t (f (thread_of w t).calls) lt (on_length f) (grown_on f t w.threads lt);
         length_is = event_length p m e (slice_index_or w.words t unset) i (thread_of w t).calls before fs (requests.Create at g v) c h;
@@ -316,8 +316,8 @@ module _ (R : Reference) (n : ℕ) (m : Moment) (w : RunShadow) (i : Instr) (at 
   pub walked_by : (frames : List Frame) (size : ℕ) → Lives m.did.did.kind frames size → Walked w (after_step R every n m w) t frames es size
   walked_by frames size h =
       let x = extended w.threads live.threads t h.calls es lt h.grown in
-      subst (λ (v : RunShadow). Walked w v t frames es size) (sym step_is) (record {
-        own_calls = ap (λ (l : List (List Shadow)). length l) x.own_calls ∙ h.length_is;
+      subst (λ (v : SymbolicState). Walked w v t frames es size) (sym step_is) (record {
+        own_calls = ap (λ (l : List (List Symbolic)). length l) x.own_calls ∙ h.length_is;
         own_extents = x.own_extents;
         others = x.others;
         past = x.past;

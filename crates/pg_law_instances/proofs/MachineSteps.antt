@@ -25,7 +25,7 @@ use Rattle.pg_num.specs.Inputs.{input_at}
 use Rattle.pg_run.proofs.StepsBegin.{next_is, ready_acts}
 use Rattle.pg_run.proofs.Threads.{set_own, set_other}
 use Rattle.pg_slice_rules.specs.Freeable.{bounds_of}
-use Rattle.pg_slice_rules.specs.Shadows.{is_within}
+use Rattle.pg_slice_rules.specs.SymbolicValues.{is_within}
 use Rattle.pg_num.specs.declared.layout.TheConstants.{MEMORY_BYTES}
 use Rattle.pg_law_instances.specs.Leads.{IsWithin, KeepsCells}
 use Rattle.pg_law_instances.specs.Inside.{Instance, AreApart}

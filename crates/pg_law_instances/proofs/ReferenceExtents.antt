@@ -36,7 +36,7 @@ use Rattle.pg_law_effects.proofs.ReachedStates.{present, reached_first, reached_
 use Rattle.pg_slice_rules.specs.Moments.{Moment, calls_of, instr_in, moments_from, moments_of, state_after, thread_in}
 use Rattle.pg_slice_rules.specs.Extents.{Extent, is_live, begun}
 use Rattle.pg_slice_rules.specs.Freeable.{FreeRegion, Regions, bounds_of}
-use Rattle.pg_slice_rules.specs.Known.{Reference, RunShadow, Seen, after_step, region_of, seen_from, start_of, thread_of, ThreadShadow}
+use Rattle.pg_slice_rules.specs.Known.{Reference, SymbolicState, Seen, after_step, region_of, seen_from, start_of, thread_of, SymbolicThread}
 use Rattle.pg_law_least.specs.Keeps as keeps_of
 use Rattle.pg_law_least.specs.Keeps.{ExtentsKeep, depth_of, edge_at, every, instr_of, open_before}
 use Rattle.pg_slice_replay.specs.OfRegions.{AreRegions}
@@ -49,7 +49,7 @@ use Rattle.pg_law_instances.proofs.ExtentSteps.{took_it}
 use Rattle.pg_law_instances.proofs.KnownThreads.{Match, Walked, adds_by, lives_event, lives_plain, walked_by, Lives}
 use Rattle.pg_law_instances.proofs.NextStepsOfThread.{exited}
 use Rattle.pg_law_instances.proofs.DoneSteps.{Plain, Requests, Took}
-use Rattle.pg_slice_rules.specs.Shadows.{is_within}
+use Rattle.pg_slice_rules.specs.SymbolicValues.{is_within}
 use Rattle.pg_run_trace.specs.declared.step.Access.{Access}
 use Rattle.std.proofs.lemmas.Option.{slice_get_within}
 
@@ -89,7 +89,7 @@ module _ (p : NumberedProgram) (gates : List InstrId) (sums : ℕ → Option Roo
   Stacked es = IsStack p gates sums regions are moments free_of block_of program summaries input small es
 
   -- what holds before each step of the run
-  pub record Inv (k : ℕ) (w : RunShadow) (s : State) (ts : List (Timed Step)) : Type 0 where
+  pub record Inv (k : ℕ) (w : SymbolicState) (s : State) (ts : List (Timed Step)) : Type 0 where
     pub reached : IsReached p s
     pub run : IsRun gates p input s (did_of ts) z
     pub together : AreTogether (did_of ts)
@@ -101,7 +101,7 @@ module _ (p : NumberedProgram) (gates : List InstrId) (sums : ℕ → Option Roo
 
   -- ---- one step
 
-  module _ (k : ℕ) (w : RunShadow) (s : State) (x : Timed Step) (ts : List (Timed Step)) (inv : Inv k w s (x ∷ ts)) where
+  module _ (k : ℕ) (w : SymbolicState) (s : State) (x : Timed Step) (ts : List (Timed Step)) (inv : Inv k w s (x ∷ ts)) where
     abbrev t : ℕ
     t = x.did.thread.0
 
@@ -162,7 +162,7 @@ module _ (p : NumberedProgram) (gates : List InstrId) (sums : ℕ → Option Roo
     abbrev took : Took gates p s t l x.did v
     took = took_it p gates sums regions are moments free_of block_of program summaries input small s v z t l x.did (did_of ts) y seen inv.run inv.together refl
 
-    abbrev w' : RunShadow
+    abbrev w' : SymbolicState
     w' = after_step R every k m w
 
     abbrev left_here : List Extent
@@ -222,7 +222,7 @@ module _ (p : NumberedProgram) (gates : List InstrId) (sums : ℕ → Option Roo
     other_extents u ne e c = go (cases_lt u (length w.threads))
       where
         go : (u < length w.threads) ⊎ (length w.threads ≤ u) → ⊥
-        go (inl lt) = ne (sym (inv.alone u e (subst (λ (th : ThreadShadow). Contains th.extents e) (walked.others u ne lt) c)))
+        go (inl lt) = ne (sym (inv.alone u e (subst (λ (th : SymbolicThread). Contains th.extents e) (walked.others u ne lt) c)))
         go (inr le) = none_in e (subst (λ (l : List Extent). Contains l e) (walked.past u le).0 c)
 
     own_extent : (e : Extent) → Contains (thread_of w' t).extents e → Contains left_here e
@@ -238,7 +238,7 @@ module _ (p : NumberedProgram) (gates : List InstrId) (sums : ℕ → Option Roo
             ap (λ (c : ℕ). length (thread_of w' c).calls) q ∙ walked.own_calls ∙ ap (λ (h : LocalState). length h.frames) same
         go u n e (inr ne) (inl lt) =
             let c = inv.matches.count in
-            ap (λ (th : ThreadShadow). length th.calls) (walked.others u ne lt) ∙ inv.matches.calls u n (sym (took.others u ne (omega (arith, lt, c))) ∙ e)
+            ap (λ (th : SymbolicThread). length th.calls) (walked.others u ne lt) ∙ inv.matches.calls u n (sym (took.others u ne (omega (arith, lt, c))) ∙ e)
         go u n e (inr ne) (inr le) =
             let c = inv.matches.count in
             let f = took.made u n (omega (arith, le, c)) e in
@@ -289,7 +289,7 @@ module _ (p : NumberedProgram) (gates : List InstrId) (sums : ℕ → Option Roo
 
   -- ---- the run
 
-  pub along : (ts : List (Timed Step)) (k : ℕ) (w : RunShadow) (s : State) → Inv k w s ts → (a : Seen) → Contains (seen_from R every k w (moments_from gates p input s ts)) a
+  pub along : (ts : List (Timed Step)) (k : ℕ) (w : SymbolicState) (s : State) → Inv k w s ts → (a : Seen) → Contains (seen_from R every k w (moments_from gates p input s ts)) a
       → Facts R free_of a
   unfolding seen_from moments_from
   along [] k w s inv a c = absurd (none_in a c)
@@ -307,7 +307,7 @@ module _ (p : NumberedProgram) (gates : List InstrId) (sums : ℕ → Option Roo
 -- ---- numbers of steps
 
 -- a step stands at its number
-pub numbered : (R : Reference) (k : ℕ) (w : RunShadow) (ms : List Moment) (y : Seen) → Contains (seen_from R every k w ms) y
+pub numbered : (R : Reference) (k : ℕ) (w : SymbolicState) (ms : List Moment) (y : Seen) → Contains (seen_from R every k w ms) y
     → (j : ℕ) × (y.number ≡ k + j) × (slice_get (seen_from R every k w ms) j ≡ Some y)
 unfolding seen_from
 numbered R k w [] y c = absurd (none_in y c)

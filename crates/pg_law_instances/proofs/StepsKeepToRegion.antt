@@ -36,7 +36,7 @@ use Rattle.pg_slice_rules.specs.Extents.{Extent, edge_by, edge_in}
 use Rattle.pg_slice_rules.specs.Freeable.{FreeAccess, FreeRegion, Regions, bounds_of, region_at}
 use Rattle.pg_slice_rules.specs.Known.{Reference, Seen, caller_target, edge_of, is_branch, region_of, target_of}
 use Rattle.pg_slice_rules.specs.Rules.{kind_in}
-use Rattle.pg_slice_rules.specs.Shadows.{is_within}
+use Rattle.pg_slice_rules.specs.SymbolicValues.{is_within}
 use Rattle.pg_law_instances.specs.Inside.{Instance, IsBottom, Stands, edge_taken, region_set, registers_by}
 use Rattle.pg_law_least.specs.Keeps.{KeepsTo, MaySet, MaySetPhis, Returns, StoresBy, depth_of, edge_at, instr_of, is_store, may_write}
 use Rattle.pg_law_instances.specs.Leads.{IsReached as LeadsTo}

@@ -12,9 +12,9 @@ use Rattle.pg_run_trace.specs.Steps.{happening_in, range_of}
 use Rattle.pg_slice_rules.specs.declared.decision.Decision.TheVariants.{Pinned}
 use Rattle.pg_slice_rules.specs.Moments.{Moment, instr_in, thread_in}
 use Rattle.pg_slice_rules.specs.Freeable.{FreeRegion, bounds_of}
-use Rattle.pg_slice_rules.specs.Shadows.{Shadow, Unknown, is_within}
+use Rattle.pg_slice_rules.specs.SymbolicValues.{Symbolic, Unknown, is_within}
 use Rattle.pg_slice_rules.specs.Extents.{Extent, begun, edge_in, ends, is_live, open_after}
-use Rattle.pg_slice_rules.specs.Known.{Reference, RunShadow, Seen, Taken, ThreadShadow, after_step, edge_of, is_branch, region_of, thread_of}
+use Rattle.pg_slice_rules.specs.Known.{Reference, SymbolicState, Seen, Taken, SymbolicThread, after_step, edge_of, is_branch, region_of, thread_of}
 use Rattle.pg_law_least.specs.Keeps.{AreStacked, ExtentsKeep, KeepsTo, MaySetPhis, every, is_store, may_write, steps_of}
 use Rattle.pg_law_least.specs.Along.{calls_behind}
 use Rattle.pg_law_least.proofs.AlikeKnowledge.{Alike, RunLike, Still, ThreadLike, all_alike, made_like, made_plain}
@@ -30,10 +30,10 @@ use Rattle.pg_law_least.proofs.KnownCallCounts.{branch_height, calls_length, edg
 use Rattle.pg_law_least.proofs.LeftUnknown.{branch_plain, instance_bytes, instance_calls}
 use Rattle.pg_law_least.proofs.LiveStepsInside.{Above, IsTopForgotten, bytes_kept, calls_kept, none_above, plain_edge, words_kept}
 
-module _ (R : Reference) (keeps : ExtentsKeep R) (d e : Taken) (bound : ℕ) (L : Shadow → Shadow → Type 0) (k : IsLink d e bound L) where
+module _ (R : Reference) (keeps : ExtentsKeep R) (d e : Taken) (bound : ℕ) (L : Symbolic → Symbolic → Type 0) (k : IsLink d e bound L) where
   -- ---- a step
 
-  module _ (n : ℕ) (below : n < bound) (m : Moment) (s t u : RunShadow) (like : RunLike R keeps d e bound L k s t u)
+  module _ (n : ℕ) (below : n < bound) (m : Moment) (s t u : SymbolicState) (like : RunLike R keeps d e bound L k s t u)
       (in_run : Contains (steps_of R) (record {
         number = n;
         moment = m;
@@ -60,13 +60,13 @@ module _ (R : Reference) (keeps : ExtentsKeep R) (d e : Taken) (bound : ℕ) (L 
     abbrev es : List Extent
     es = (thread_of u (thread_in m)).extents
 
-    abbrev cs : List (List Shadow)
+    abbrev cs : List (List Symbolic)
     cs = (thread_of s (thread_in m)).calls
 
-    abbrev ct : List (List Shadow)
+    abbrev ct : List (List Symbolic)
     ct = (thread_of t (thread_in m)).calls
 
-    abbrev cu : List (List Shadow)
+    abbrev cu : List (List Symbolic)
     cu = (thread_of u (thread_in m)).calls
 
     abbrev own : ThreadLike R keeps d e bound L k s.bytes (thread_of s (thread_in m)) (thread_of t (thread_in m)) (thread_of u (thread_in m))
@@ -96,7 +96,7 @@ module _ (R : Reference) (keeps : ExtentsKeep R) (d e : Taken) (bound : ℕ) (L 
     branches r q = branch_height R.program R.regions m i r (length cu) q (λ x f. keeps.branches y in_run r q x f)
 
     -- of one thread under decisions c
-    height_next : (c : Taken) (v : RunShadow) (b : Bool) → b ≡ is_live c.pinned es → length (thread_of v (thread_in m)).calls ≡ height_by (stand c es) (length cu) →
+    height_next : (c : Taken) (v : SymbolicState) (b : Bool) → b ≡ is_live c.pinned es → length (thread_of v (thread_in m)).calls ≡ height_by (stand c es) (length cu) →
         length (own_calls R.program c n m region v b i) ≡ height_by (stand c (open_after n (length m.calls) region edge es)) (length (own_calls R.program every n m region u true i))
     height_next c v b q h = go (stand c es) refl
       where
@@ -274,7 +274,7 @@ module _ (R : Reference) (keeps : ExtentsKeep R) (d e : Taken) (bound : ℕ) (L 
         moved_calls : (o : Option Instr) → i ≡ o → Above R.program d e bound L k cs (calls_after R.program e n m region o t ct)
         moved_calls None q = own.above
         moved_calls (Some z) q =
-            subst (λ (c : List (List Shadow)). Above R.program d e bound L k cs (calls_by R.program e n m region z kind t c)) (sym own.above.whole)
+            subst (λ (c : List (List Symbolic)). Above R.program d e bound L k cs (calls_by R.program e n m region z kind t c)) (sym own.above.whole)
             (calls_kept R.program d e bound L k st.region.sets (Pinned x.step) new taken n m region x.depth z cs own.above.more own.above.low own.above.like st.registers high whole
             (λ l. keep.result l z q)
             (λ l. subst (MaySetPhis R.program st.region.sets) (plain_edge R.program m kind keep.plain ∙ ap (edge_in R.program m) q) (keep.phis l))
@@ -294,7 +294,7 @@ module _ (R : Reference) (keeps : ExtentsKeep R) (d e : Taken) (bound : ℕ) (L 
         moved_bytes b = go (may_write st.region.accesses b) refl
           where
             go : (c : Bool) → may_write st.region.accesses b ≡ c → L (s.bytes b) (bytes_after R.program e n m region i t b)
-            go true f = subst (λ (z : Shadow). L z (bytes_after R.program e n m region i t b)) (sym (st.writes b f)) (k.left (Pinned x.step) new taken _)
+            go true f = subst (λ (z : Symbolic). L z (bytes_after R.program e n m region i t b)) (sym (st.writes b f)) (k.left (Pinned x.step) new taken _)
             go false f = subst (L (s.bytes b)) (sym (byte_same i refl b f)) (like.bytes b)
 
         word_same : (o : Option Instr) → words_behind R.program m o t ≡ t.words
@@ -370,7 +370,7 @@ module _ (R : Reference) (keeps : ExtentsKeep R) (d e : Taken) (bound : ℕ) (L 
       still = next.still;
     }
 
-    abbrev After : (ℕ → Shadow) → ℕ → Type 0
+    abbrev After : (ℕ → Symbolic) → ℕ → Type 0
     After bytes j = ThreadLike R keeps d e bound L k bytes (thread_of (after_step R d n m s) j) (thread_of (after_step R e n m t) j) (thread_of (after_step R every n m u) j)
 
     own_thread : After (next_bytes R d n m s) (thread_in m)
@@ -379,7 +379,7 @@ module _ (R : Reference) (keeps : ExtentsKeep R) (d e : Taken) (bound : ℕ) (L 
         let g = like.as_many in
         rw (thread_own R d n m s (omega (arith, f, begun_u)), thread_own R e n m t (omega (arith, g, begun_u)), thread_own R every n m u begun_u) own_next
 
-    quiet_like : (bytes bytes' : ℕ → Shadow) (a b c : ThreadShadow) → c.extents ≡ [] → ThreadLike R keeps d e bound L k bytes a b c → ThreadLike R keeps d e bound L k bytes' a b c
+    quiet_like : (bytes bytes' : ℕ → Symbolic) (a b c : SymbolicThread) → c.extents ≡ [] → ThreadLike R keeps d e bound L k bytes a b c → ThreadLike R keeps d e bound L k bytes' a b c
     quiet_like bytes bytes' a b c q h = record {
       first = h.first;
       second = h.second;
@@ -419,7 +419,7 @@ module _ (R : Reference) (keeps : ExtentsKeep R) (d e : Taken) (bound : ℕ) (L 
     step_like = record {
       fewer = fewer_next;
       as_many = as_many_next;
-      threads = λ j. subst (λ (b : ℕ → Shadow). After b j) (sym (bytes_next R d n m s)) (each_thread j);
+      threads = λ j. subst (λ (b : ℕ → Symbolic). After b j) (sym (bytes_next R d n m s)) (each_thread j);
       bytes = λ b. rw (bytes_next R d n m s, bytes_next R e n m t) (next.bytes b);
       words = rw (words_next R d n m s, words_next R e n m t) next.words;
     }

@@ -13,9 +13,9 @@ use Rattle.pg_run_trace.specs.Steps.{happening_in}
 use Rattle.pg_slice_rules.specs.declared.decision.Decision.TheVariants.{Pinned}
 use Rattle.pg_slice_rules.specs.Moments.{Moment}
 use Rattle.pg_slice_rules.specs.Freeable.{FreeRegion}
-use Rattle.pg_slice_rules.specs.Shadows.{Shadow, Unknown, unset}
+use Rattle.pg_slice_rules.specs.SymbolicValues.{Symbolic, Unknown, unset}
 use Rattle.pg_slice_rules.specs.Extents.{Extent}
-use Rattle.pg_slice_rules.specs.Known.{Reference, RunShadow, Seen, Taken, ThreadShadow, fresh_thread, no_thread, start_of, thread_of}
+use Rattle.pg_slice_rules.specs.Known.{Reference, SymbolicState, Seen, Taken, SymbolicThread, fresh_thread, no_thread, start_of, thread_of}
 use Rattle.pg_law_least.specs.Keeps.{ExtentsKeep, may_write, steps_of}
 use Rattle.pg_law_least.proofs.AlikeLists.{replicate_like}
 use Rattle.pg_law_least.proofs.KeptLikeness.{IsLink}
@@ -24,9 +24,9 @@ use Rattle.pg_law_least.proofs.ThreadsAfterSteps.{made_at, made_by, made_in}
 use Rattle.pg_law_least.proofs.OldestFreeExtent.{height_by, stand}
 use Rattle.pg_law_least.proofs.LiveStepsInside.{Above, IsTopForgotten, made_none}
 
-module _ (R : Reference) (keeps : ExtentsKeep R) (d e : Taken) (bound : ℕ) (L : Shadow → Shadow → Type 0) (k : IsLink d e bound L) where
+module _ (R : Reference) (keeps : ExtentsKeep R) (d e : Taken) (bound : ℕ) (L : Symbolic → Symbolic → Type 0) (k : IsLink d e bound L) where
   -- where a thread stands still: at an unpinned freeable branch step, whose instance is unknown
-  pub record Still (bytes : ℕ → Shadow) (cs : List (List Shadow)) (x : Extent) : Type 0 where
+  pub record Still (bytes : ℕ → Symbolic) (cs : List (List Symbolic)) (x : Extent) : Type 0 where
     pub branch : Seen
     pub seen : Contains (steps_of R) branch
     pub number : x.step ≡ branch.number
@@ -36,7 +36,7 @@ module _ (R : Reference) (keeps : ExtentsKeep R) (d e : Taken) (bound : ℕ) (L 
     pub writes : (b : ℕ) → may_write region.accesses b ≡ true → bytes b ≡ Unknown (Pinned x.step)
 
   -- a thread under d, under e and under all decisions
-  pub record ThreadLike (bytes : ℕ → Shadow) (s t u : ThreadShadow) : Type 0 where
+  pub record ThreadLike (bytes : ℕ → Symbolic) (s t u : SymbolicThread) : Type 0 where
     pub first : s.extents ≡ u.extents
     pub second : t.extents ≡ u.extents
     pub above : Above R.program d e bound L k s.calls t.calls
@@ -44,22 +44,22 @@ module _ (R : Reference) (keeps : ExtentsKeep R) (d e : Taken) (bound : ℕ) (L 
     pub higher : length t.calls ≡ height_by (stand e u.extents) (length u.calls)
     pub still : (x : Extent) → stand d u.extents ≡ Some x → Still bytes s.calls x
 
-  pub record RunLike (s t u : RunShadow) : Type 0 where
+  pub record RunLike (s t u : SymbolicState) : Type 0 where
     pub fewer : length s.threads ≡ length u.threads
     pub as_many : length t.threads ≡ length u.threads
     pub threads : (i : ℕ) → ThreadLike s.bytes (thread_of s i) (thread_of t i) (thread_of u i)
     pub bytes : (b : ℕ) → L (s.bytes b) (t.bytes b)
     pub words : AllZip L s.words t.words
 
-  abbrev pub Alike : List (List Shadow) → List (List Shadow) → Type 0
+  abbrev pub Alike : List (List Symbolic) → List (List Symbolic) → Type 0
   Alike cs ct = CallsLike R.program d e bound L k cs ct
 
-  pub all_alike : (cs ct : List (List Shadow)) → Alike cs ct → Above R.program d e bound L k cs ct
+  pub all_alike : (cs ct : List (List Symbolic)) → Alike cs ct → Above R.program d e bound L k cs ct
   all_alike cs ct h = record { more = []; low = ct; whole = refl; like = h }
 
   -- ---- threads that are made
 
-  quiet_thread : (bytes : ℕ → Shadow) (z : ThreadShadow) → z.extents ≡ [] → Alike z.calls z.calls → ThreadLike bytes z z z
+  quiet_thread : (bytes : ℕ → Symbolic) (z : SymbolicThread) → z.extents ≡ [] → Alike z.calls z.calls → ThreadLike bytes z z z
   quiet_thread bytes z q h = record {
     first = refl;
     second = refl;
@@ -69,24 +69,24 @@ module _ (R : Reference) (keeps : ExtentsKeep R) (d e : Taken) (bound : ℕ) (L 
     still = λ x f. let g : None ≡ Some x = ap (stand d) (sym q) ∙ f in absurd (cc);
   }
 
-  fresh_like : (bytes : ℕ → Shadow) (f : ℕ) → ThreadLike bytes (fresh_thread R.program f) (fresh_thread R.program f) (fresh_thread R.program f)
+  fresh_like : (bytes : ℕ → Symbolic) (f : ℕ) → ThreadLike bytes (fresh_thread R.program f) (fresh_thread R.program f) (fresh_thread R.program f)
   fresh_like bytes f = quiet_thread bytes (fresh_thread R.program f) refl (replicate_like L (length (types_of R.program f)) unset (k.known (λ input. None)), tt)
 
-  no_like : (bytes : ℕ → Shadow) → ThreadLike bytes no_thread no_thread no_thread
+  no_like : (bytes : ℕ → Symbolic) → ThreadLike bytes no_thread no_thread no_thread
   no_like bytes = quiet_thread bytes no_thread refl tt
 
-  made_event : (bytes : ℕ → Shadow) (v : Event) (kind : TurnKind) (i : ℕ) →
+  made_event : (bytes : ℕ → Symbolic) (v : Event) (kind : TurnKind) (i : ℕ) →
       ThreadLike bytes (slice_index_or (made_by R.program v kind) i no_thread) (slice_index_or (made_by R.program v kind) i no_thread) (slice_index_or (made_by R.program v kind) i no_thread)
   made_event bytes v turns.Create zero = fresh_like bytes (slice_index v.operands 2)
   made_event bytes v turns.Create (suc i) = no_like bytes
   made_event bytes v _ i = no_like bytes
 
-  made_kind : (bytes : ℕ → Shadow) (kind : StepKind) (i : ℕ) →
+  made_kind : (bytes : ℕ → Symbolic) (kind : StepKind) (i : ℕ) →
       ThreadLike bytes (slice_index_or (made_in R.program kind) i no_thread) (slice_index_or (made_in R.program kind) i no_thread) (slice_index_or (made_in R.program kind) i no_thread)
   made_kind bytes (kinds.Event v) i = made_event bytes v v.kind i
   made_kind bytes kind i = no_like bytes
 
-  pub made_like : (bytes : ℕ → Shadow) (m : Moment) (o : Option Instr) (i : ℕ) →
+  pub made_like : (bytes : ℕ → Symbolic) (m : Moment) (o : Option Instr) (i : ℕ) →
       ThreadLike bytes (slice_index_or (made_at R.program m o) i no_thread) (slice_index_or (made_at R.program m o) i no_thread) (slice_index_or (made_at R.program m o) i no_thread)
   made_like bytes m None i = no_like bytes
   made_like bytes m (Some x) i = made_kind bytes m.did.did.kind i

@@ -15,8 +15,8 @@ use Rattle.pg_slice_rules.specs.declared.decision.Decision.{Decision}
 use Rattle.pg_slice_rules.specs.declared.decision.Decision.TheVariants.{Pinned, Exact}
 use Rattle.pg_slice_rules.specs.Moments.{Moment, instr_in, thread_in}
 use Rattle.pg_slice_rules.specs.Freeable.{FreeRegion}
-use Rattle.pg_slice_rules.specs.Shadows.{Shadow, Known, Bounded, Unknown, blames, bounds_blames, unset}
-use Rattle.pg_slice_rules.specs.Known.{Reference, RunShadow, Seen, Taken, ThreadShadow, after_step, fresh_thread, no_thread, seen_from, seen_in, start_of, thread_of, with_extents}
+use Rattle.pg_slice_rules.specs.SymbolicValues.{Symbolic, Known, Bounded, Unknown, blames, bounds_blames, unset}
+use Rattle.pg_slice_rules.specs.Known.{Reference, SymbolicState, Seen, Taken, SymbolicThread, after_step, fresh_thread, no_thread, seen_from, seen_in, start_of, thread_of, with_extents}
 use Rattle.pg_slice_rules.specs.Rules.{Need, Value, Bounds, is_bound, is_disturbed, is_shared, need_blames, value_needs, bounds_needs}
 use Rattle.pg_slice_rules.specs.Closed.{asks, asks_at}
 use Rattle.pg_law_least.proofs.AlikeLists.{replicate_like}
@@ -45,16 +45,16 @@ append_all P [] ys h k = k
 append_all P (x ∷ xs) ys h k = (h.0, append_all P xs ys h.1 k)
 
 module _ (R : Reference) (d : Taken) (bound : ℕ) where
-  abbrev L : Shadow → Shadow → Type 0
+  abbrev L : Symbolic → Symbolic → Type 0
   L = SameNew d bound
 
   k : IsLink d d bound L
   k = new_link d bound
 
-  abbrev CallsNew : ThreadShadow → Type 0
+  abbrev CallsNew : SymbolicThread → Type 0
   CallsNew th = CallsLike R.program d d bound L k th.calls th.calls
 
-  record StateNew (s : RunShadow) : Type 0 where
+  record StateNew (s : SymbolicState) : Type 0 where
     threads : AllByRecursion CallsNew s.threads
     bytes : (b : ℕ) → L (s.bytes b) (s.bytes b)
     words : AllZip L s.words s.words
@@ -72,8 +72,8 @@ module _ (R : Reference) (d : Taken) (bound : ℕ) where
     words = ((refl, tt), tt);
   }
 
-  module _ (n : ℕ) (l : n < bound) (m : Moment) (s : RunShadow) (h : StateNew s) where
-    abbrev th : ThreadShadow
+  module _ (n : ℕ) (l : n < bound) (m : Moment) (s : SymbolicState) (h : StateNew s) where
+    abbrev th : SymbolicThread
     th = thread_of s (thread_in m)
 
     th_new : CallsNew th
@@ -127,8 +127,8 @@ module _ (R : Reference) (d : Taken) (bound : ℕ) where
     step_new : StateNew (after_step R d n m s)
     step_new = record {
       threads = subst (AllByRecursion CallsNew) (sym (threads_next R d n m s)) threads_new;
-      bytes = λ b. subst (λ (f : ℕ → Shadow). L (f b) (f b)) (sym (bytes_next R d n m s)) (bytes_new (live_at R d n m s) (instr_in R.program m) b);
-      words = subst (λ (ws : List Shadow). AllZip L ws ws) (sym (words_next R d n m s)) (words_new (live_at R d n m s) (instr_in R.program m));
+      bytes = λ b. subst (λ (f : ℕ → Symbolic). L (f b) (f b)) (sym (bytes_next R d n m s)) (bytes_new (live_at R d n m s) (instr_in R.program m) b);
+      words = subst (λ (ws : List Symbolic). AllZip L ws ws) (sym (words_next R d n m s)) (words_new (live_at R d n m s) (instr_in R.program m));
     }
 
     seen_new : (live : Bool) (region : Option FreeRegion) → SeenLike L (record { number = n; moment = m; region = region; live = live; before = s })
@@ -142,7 +142,7 @@ module _ (R : Reference) (d : Taken) (bound : ℕ) where
     }
 
   -- each step of the run
-  each_new : (n : ℕ) (s : RunShadow) (ms : List Moment) → n + length ms ≤ bound → StateNew s → (x : Seen) → Contains (seen_from R d n s ms) x → SeenLike L x x × (x.number < bound)
+  each_new : (n : ℕ) (s : SymbolicState) (ms : List Moment) → n + length ms ≤ bound → StateNew s → (x : Seen) → Contains (seen_from R d n s ms) x → SeenLike L x x × (x.number < bound)
   unfolding seen_from
   each_new n s [] l h x c = absurd (none_in x c)
   each_new n s (m ∷ ms) l h x c = go (cases_in _ (seen_from R d (suc n) (after_step R d n m s) ms) x c) (λ g t. each_new (suc n) (after_step R d n m s) ms (omega (arith, l)) g x t)
@@ -155,7 +155,7 @@ module _ (R : Reference) (d : Taken) (bound : ℕ) where
       go (inl e) more = subst (λ (z : Seen). SeenLike L z z × (z.number < bound)) e (seen_new n below m s h (live_at R d n m s) (own_region R d n m s), below)
       go (inr t) more = more (step_new n below m s h) t
 
-  blamed : (s : Shadow) (x : Decision) → BlamesNew d bound s → Contains (blames s) x → IsNew d bound x
+  blamed : (s : Symbolic) (x : Decision) → BlamesNew d bound s → Contains (blames s) x → IsNew d bound x
   blamed (Known f g) x h c = absurd (none_in x c)
   blamed (Bounded f y) x h c = only (cases_in y [] x c)
     where
@@ -168,7 +168,7 @@ module _ (R : Reference) (d : Taken) (bound : ℕ) where
       only (inl e) = subst (IsNew d bound) e h
       only (inr t) = absurd (none_in x t)
 
-  bounds_blamed : (s : Shadow) (x : Decision) → BlamesNew d bound s → Contains (bounds_blames s) x → IsNew d bound x
+  bounds_blamed : (s : Symbolic) (x : Decision) → BlamesNew d bound s → Contains (bounds_blames s) x → IsNew d bound x
   bounds_blamed (Known f g) x h c = absurd (none_in x c)
   bounds_blamed (Bounded f y) x h c = absurd (none_in x c)
   bounds_blamed (Unknown y) x h c = blamed (Unknown y) x h c

@@ -20,10 +20,10 @@ use Rattle.pg_run_trace.specs.Steps.{access_in}
 use Rattle.pg_slice_rules.specs.declared.decision.Decision.TheVariants.{Pinned, Exact}
 use Rattle.pg_slice_rules.specs.Moments.{instr_in, thread_in}
 use Rattle.pg_slice_rules.specs.Freeable.{FreeAccess, FreeRegion}
-use Rattle.pg_slice_rules.specs.Shadows.{Shadow, loaded}
-use Rattle.pg_slice_rules.specs.Known.{Reference, RunShadow, Seen, Taken, registers_of}
+use Rattle.pg_slice_rules.specs.SymbolicValues.{Symbolic, loaded}
+use Rattle.pg_slice_rules.specs.Known.{Reference, SymbolicState, Seen, Taken, registers_of}
 use Rattle.pg_slice_rules.specs.Rules.{Need, Value, Bounds, access_needs_by, access_needs_in, all_of, checked_of, address_index, equal_to, event_needs, bounds_needs, free_access_needs, is_malloc}
-use Rattle.pg_slice_rules.specs.Rules.{kind_in, operand_of, path_needs, region_needs_in, registers_before, root_shadow, same_bounds, value_needs, value_needs_by, value_needs_in, write_index}
+use Rattle.pg_slice_rules.specs.Rules.{kind_in, operand_of, path_needs, region_needs_in, registers_before, root_symbolic, same_bounds, value_needs, value_needs_by, value_needs_in, write_index}
 use Rattle.pg_slice_rules.specs.Rules.{write_needs}
 use Rattle.pg_law_least.proofs.AlikeLists.{append_like, map_like}
 use Rattle.pg_region_paths.proofs.Elements.{here}
@@ -35,48 +35,48 @@ use Rattle.pg_law_least.proofs.KeptLikeness.{IsLink, loaded_like, operand_like, 
 abbrev pub IsBoundsTest : Test → Type 0
 IsBoundsTest a = (word : ℕ) × (a ≡ same_bounds word)
 
-abbrev pub NeedLike : (Shadow → Shadow → Type 0) → Need → Need → Type 0
+abbrev pub NeedLike : (Symbolic → Symbolic → Type 0) → Need → Need → Type 0
 NeedLike L (Value s a) (Value t b) = L s t × (b ≡ a)
 NeedLike L (Bounds s a) (Bounds t b) = L s t × (b ≡ a) × IsBoundsTest a
 NeedLike L m n = ⊥
 
 -- each of the first is like one of the second
-abbrev pub NeedsWithin : (Shadow → Shadow → Type 0) → List Need → List Need → Type 0
+abbrev pub NeedsWithin : (Symbolic → Symbolic → Type 0) → List Need → List Need → Type 0
 NeedsWithin L ns ms = AllByRecursion (λ (a : Need). (b : Need) × Contains ms b × NeedLike L a b) ns
 
-more_left : (L : Shadow → Shadow → Type 0) (ns ms us : List Need) → NeedsWithin L ns ms → NeedsWithin L ns (ms ++ us)
+more_left : (L : Symbolic → Symbolic → Type 0) (ns ms us : List Need) → NeedsWithin L ns ms → NeedsWithin L ns (ms ++ us)
 more_left L [] ms us h = tt
 more_left L (n ∷ ns) ms us h = ((h.0.0, Contains-append_left ms us h.0.0 h.0.1, h.0.2), more_left L ns ms us h.1)
 
-more_right : (L : Shadow → Shadow → Type 0) (ns ms us : List Need) → NeedsWithin L ns us → NeedsWithin L ns (ms ++ us)
+more_right : (L : Symbolic → Symbolic → Type 0) (ns ms us : List Need) → NeedsWithin L ns us → NeedsWithin L ns (ms ++ us)
 more_right L [] ms us h = tt
 more_right L (n ∷ ns) ms us h = ((h.0.0, Contains-append_right ms us h.0.0 h.0.1, h.0.2), more_right L ns ms us h.1)
 
-joined_needs : (L : Shadow → Shadow → Type 0) (ns us ms : List Need) → NeedsWithin L ns ms → NeedsWithin L us ms → NeedsWithin L (ns ++ us) ms
+joined_needs : (L : Symbolic → Symbolic → Type 0) (ns us ms : List Need) → NeedsWithin L ns ms → NeedsWithin L us ms → NeedsWithin L (ns ++ us) ms
 joined_needs L [] us ms h k = k
 joined_needs L (n ∷ ns) us ms h k = (h.0, joined_needs L ns us ms h.1 k)
 
-pub append_needs : (L : Shadow → Shadow → Type 0) (ns ms us vs : List Need) → NeedsWithin L ns ms → NeedsWithin L us vs → NeedsWithin L (ns ++ us) (ms ++ vs)
+pub append_needs : (L : Symbolic → Symbolic → Type 0) (ns ms us vs : List Need) → NeedsWithin L ns ms → NeedsWithin L us vs → NeedsWithin L (ns ++ us) (ms ++ vs)
 append_needs L ns ms us vs h k = joined_needs L ns us (ms ++ vs) (more_left L ns ms vs h) (more_right L us ms vs k)
 
-zip_needs : (L : Shadow → Shadow → Type 0) (ns ms : List Need) → AllZip (NeedLike L) ns ms → NeedsWithin L ns ms
+zip_needs : (L : Symbolic → Symbolic → Type 0) (ns ms : List Need) → AllZip (NeedLike L) ns ms → NeedsWithin L ns ms
 zip_needs L [] ms h = tt
 zip_needs L (n ∷ ns) [] h = absurd h
 zip_needs L (n ∷ ns) (m ∷ ms) h = ((m, here m ms, h.0), more_right L ns (m ∷ []) ms (zip_needs L ns ms h.1))
 
 -- ---- steps that are alike: what is known before the second, where the first is live
 
-abbrev pub seen_as : Seen → Bool → RunShadow → Seen
+abbrev pub seen_as : Seen → Bool → SymbolicState → Seen
 seen_as x live before = record { number = x.number; moment = x.moment; region = x.region; live = live; before = before }
 
-pub record SeenLike (L : Shadow → Shadow → Type 0) (x y : Seen) : Type 0 where
+pub record SeenLike (L : Symbolic → Symbolic → Type 0) (x y : Seen) : Type 0 where
   pub same : y ≡ seen_as x y.live y.before
   pub live : x.live ≡ true → y.live ≡ true
   pub registers : x.live ≡ true → AllZip L (registers_before x) (registers_before y)
   pub bytes : (b : ℕ) → L (x.before.bytes b) (y.before.bytes b)
   pub words : AllZip L x.before.words y.before.words
 
-module _ (R : Reference) (d e : Taken) (bound : ℕ) (L : Shadow → Shadow → Type 0) (k : IsLink d e bound L) where
+module _ (R : Reference) (d e : Taken) (bound : ℕ) (L : Symbolic → Symbolic → Type 0) (k : IsLink d e bound L) where
   module _ (x y : Seen) (number : y.number ≡ x.number) (registers : AllZip L (registers_before x) (registers_before y)) (bytes : (b : ℕ) → L (x.before.bytes b) (y.before.bytes b)) where
     operands_like : (i : Instr) (j : ℕ) → L (operand_of R.program x i j) (operand_of R.program y i j)
     operands_like i j = operand_like R.program d e bound L k (registers_before x) (registers_before y) i.op j registers
@@ -114,7 +114,7 @@ module _ (R : Reference) (d e : Taken) (bound : ℕ) (L : Shadow → Shadow → 
     accesses_by i (kinds.Event v) = write_like i (access_in (kinds.Event v))
     accesses_by i kind = tt
 
-    path_like : (offsets words : List ℕ) (cells : List ByteRange) (last : ℕ) (s t : Shadow) → L s t →
+    path_like : (offsets words : List ℕ) (cells : List ByteRange) (last : ℕ) (s t : Symbolic) → L s t →
         AllZip (NeedLike L) (path_needs x.before.bytes s offsets words cells last) (path_needs y.before.bytes t offsets words cells last)
     path_like (o ∷ offsets) (w ∷ words) (c ∷ cells) last s t h = (
       (k.shifts o s t h, refl),
@@ -123,13 +123,13 @@ module _ (R : Reference) (d e : Taken) (bound : ℕ) (L : Shadow → Shadow → 
     )
     path_like _ _ _ last s t h = ((h, refl, (last, refl)), tt)
 
-    root_like : (r : Root) → L (root_shadow R.program (registers_before x) r) (root_shadow R.program (registers_before y) r)
+    root_like : (r : Root) → L (root_symbolic R.program (registers_before x) r) (root_symbolic R.program (registers_before y) r)
     root_like (root.Register r) = register_like R.program d e bound L k (registers_before x) (registers_before y) r registers
     root_like r = k.known _
 
     free_like : (a : FreeAccess) → AllZip (NeedLike L) (free_access_needs R.program x a) (free_access_needs R.program y a)
-    free_like a = path_like (offsets_of a.path.loads) a.at.pointers a.at.cells a.at.last (root_shadow R.program (registers_before x) a.path.root)
-        (root_shadow R.program (registers_before y) a.path.root) (root_like a.path.root)
+    free_like a = path_like (offsets_of a.path.loads) a.at.pointers a.at.cells a.at.last (root_symbolic R.program (registers_before x) a.path.root)
+        (root_symbolic R.program (registers_before y) a.path.root) (root_like a.path.root)
 
     frees_like : (xs : List FreeAccess) → AllZip (NeedLike L) (all_of (free_access_needs R.program x) xs) (all_of (free_access_needs R.program y) xs)
     frees_like [] = tt
@@ -141,7 +141,7 @@ module _ (R : Reference) (d e : Taken) (bound : ℕ) (L : Shadow → Shadow → 
 
   -- ---- of steps that are alike
 
-  module _ (x : Seen) (live : Bool) (before : RunShadow) (lives : x.live ≡ true → live ≡ true)
+  module _ (x : Seen) (live : Bool) (before : SymbolicState) (lives : x.live ≡ true → live ≡ true)
       (registers : x.live ≡ true → AllZip L (registers_before x) (registers_of before (thread_in x.moment))) (bytes : (b : ℕ) → L (x.before.bytes b) (before.bytes b)) where
     live_values : (i : Option Instr) (b c : Bool) → x.live ≡ b → live ≡ c → NeedsWithin L (value_needs_in R.program d x i) (value_needs_in R.program e (seen_as x live before) i)
     live_values None b c f g = tt

@@ -3,8 +3,8 @@ use Rattle.std.proofs.Common.{ℕ, suc, ◌+◌, ◌<◌, ◌≤◌, List, [], �
 use Rattle.std.specs.Prelude.{Contains}
 use Rattle.std.specs.List.{AllZip, AllByRecursion}
 use Rattle.pg_slice_rules.specs.Moments.{Moment}
-use Rattle.pg_slice_rules.specs.Shadows.{Shadow}
-use Rattle.pg_slice_rules.specs.Known.{Reference, RunShadow, Seen, Taken, after_step, seen_from, seen_in, start_of}
+use Rattle.pg_slice_rules.specs.SymbolicValues.{Symbolic}
+use Rattle.pg_slice_rules.specs.Known.{Reference, SymbolicState, Seen, Taken, after_step, seen_from, seen_in, start_of}
 use Rattle.pg_slice_rules.specs.Closed.{AreWithin}
 use Rattle.pg_law_least.specs.Keeps.{ExtentsKeep, every, steps_of}
 use Rattle.pg_law_least.specs.Along.{region_in}
@@ -17,16 +17,16 @@ use Rattle.pg_law_least.proofs.ThreadsAfterSteps.{live_at}
 use Rattle.pg_law_least.proofs.AlikeKnowledge.{RunLike, start_like}
 use Rattle.pg_law_least.proofs.AlikeAlongRuns.{left_out, same_extents, seen_like, step_like}
 
-module _ (R : Reference) (keeps : ExtentsKeep R) (d e : Taken) (bound : ℕ) (L : Shadow → Shadow → Type 0) (k : IsLink d e bound L) where
+module _ (R : Reference) (keeps : ExtentsKeep R) (d e : Taken) (bound : ℕ) (L : Symbolic → Symbolic → Type 0) (k : IsLink d e bound L) where
   -- step n of the run, with what is known before it
-  abbrev at : ℕ → Moment → Taken → RunShadow → Seen
+  abbrev at : ℕ → Moment → Taken → SymbolicState → Seen
   at n m c s = record { number = n; moment = m; region = region_in R m; live = live_at R c n m s; before = s }
 
   -- holds of a step where what is known before it is alike
   abbrev HoldsOf : (Seen → Seen → Type 0) → Type 0
-  HoldsOf P = (n : ℕ) → n < bound → (m : Moment) (s t u : RunShadow) → RunLike R keeps d e bound L k s t u → Contains (steps_of R) (at n m every u) → P (at n m d s) (at n m e t)
+  HoldsOf P = (n : ℕ) → n < bound → (m : Moment) (s t u : SymbolicState) → RunLike R keeps d e bound L k s t u → Contains (steps_of R) (at n m every u) → P (at n m d s) (at n m e t)
 
-  each_from : (P : Seen → Seen → Type 0) → HoldsOf P → (n : ℕ) (s t u : RunShadow) (ms : List Moment) → n + length ms ≤ bound → RunLike R keeps d e bound L k s t u →
+  each_from : (P : Seen → Seen → Type 0) → HoldsOf P → (n : ℕ) (s t u : SymbolicState) (ms : List Moment) → n + length ms ≤ bound → RunLike R keeps d e bound L k s t u →
       ((z : Seen) → Contains (seen_from R every n u ms) z → Contains (steps_of R) z) → AllZip P (seen_from R d n s ms) (seen_from R e n t ms)
   unfolding seen_from
   each_from P f n s t u [] l like c = tt
@@ -38,13 +38,13 @@ module _ (R : Reference) (keeps : ExtentsKeep R) (d e : Taken) (bound : ℕ) (L 
             (λ z q. c z (there _ (seen_from R every (suc n) (after_step R every n m u) ms) z q)),
       )
 
-run_by : (R : Reference) (keeps : ExtentsKeep R) (d e : Taken) (L : Shadow → Shadow → Type 0) (k : IsLink d e (length R.moments) L) (P : Seen → Seen → Type 0) →
+run_by : (R : Reference) (keeps : ExtentsKeep R) (d e : Taken) (L : Symbolic → Symbolic → Type 0) (k : IsLink d e (length R.moments) L) (P : Seen → Seen → Type 0) →
     HoldsOf R keeps d e (length R.moments) L k P → AllZip P (seen_in R d) (seen_in R e)
 run_by R keeps d e L k P f = each_from R keeps d e (length R.moments) L k P f 0 (start_of R.program) (start_of R.program) (start_of R.program) R.moments (omega arith)
     (start_like R keeps d e (length R.moments) L k) (λ z c. c)
 
 -- what is known before each step under d and under e
-pub run_like : (R : Reference) → ExtentsKeep R → (d e : Taken) (L : Shadow → Shadow → Type 0) → IsLink d e (length R.moments) L → AllZip (SeenLike L) (seen_in R d) (seen_in R e)
+pub run_like : (R : Reference) → ExtentsKeep R → (d e : Taken) (L : Symbolic → Symbolic → Type 0) → IsLink d e (length R.moments) L → AllZip (SeenLike L) (seen_in R d) (seen_in R e)
 run_like R keeps d e L k = run_by R keeps d e L k (SeenLike L) (λ n below m s t u like in_run. seen_like R keeps d e (length R.moments) L k n below m s t u like in_run)
 
 -- the open extents

@@ -15,7 +15,7 @@ use Rattle.pg_law_threads.proofs.TimedSteps.{low_high}
 use Rattle.pg_slice_conflicts.specs.declared.footprint.Footprint.{Footprint}
 use Rattle.pg_slice_conflicts.specs.Meets.{InOrder}
 use Rattle.pg_slice_rules.specs.Freeable.{Regions}
-use Rattle.pg_slice_rules.specs.Known.{Reference, RunShadow, Seen, Taken, after_step, seen_from, seen_in, start_of}
+use Rattle.pg_slice_rules.specs.Known.{Reference, SymbolicState, Seen, Taken, after_step, seen_from, seen_in, start_of}
 use Rattle.pg_slice_rules.specs.Moments.{Moment, moments_from, moments_of, state_after}
 use Rattle.pg_slice_rules.specs.Rules as rules
 use Rattle.pg_law_least.specs.FootprintLaws.{AreInOrder}
@@ -87,7 +87,7 @@ unfolding moments_from
 moments_did gated p input s [] = refl
 moments_did gated p input s (x ∷ xs) = ap (λ l. x ∷ l) (moments_did gated p input (state_after s (step gated p input s x.did.thread.0)) xs)
 
-seen_did : (R : Reference) (d : Taken) (n : ℕ) (s : RunShadow) (ms : List Moment) → did_of (seen_from R d n s ms) ≡ did_in ms
+seen_did : (R : Reference) (d : Taken) (n : ℕ) (s : SymbolicState) (ms : List Moment) → did_of (seen_from R d n s ms) ≡ did_in ms
 unfolding seen_from
 seen_did R d n s [] = refl
 seen_did R d n s (m ∷ ms) = ap (λ l. m.did ∷ l) (seen_did R d (suc n) (after_step R d n m s) ms)

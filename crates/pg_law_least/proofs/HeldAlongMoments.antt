@@ -12,10 +12,10 @@ use Rattle.pg_run_trace.specs.declared.step.Access.{Access}
 use Rattle.pg_run_trace.specs.declared.step.Event.{Event}
 use Rattle.pg_slice_rules.specs.Moments.{Moment, instr_in, thread_in}
 use Rattle.pg_slice_rules.specs.Freeable.{FreeRegion, bounds_of}
-use Rattle.pg_slice_rules.specs.Shadows.{is_within}
+use Rattle.pg_slice_rules.specs.SymbolicValues.{is_within}
 use Rattle.pg_run_trace.specs.Steps.{range_of}
 use Rattle.pg_slice_rules.specs.Extents.{Extent, begun, ends, open_after}
-use Rattle.pg_slice_rules.specs.Known.{Reference, RunShadow, Seen, Taken, ThreadShadow, after_step, edge_of, no_thread, seen_from, start_of, thread_of}
+use Rattle.pg_slice_rules.specs.Known.{Reference, SymbolicState, Seen, Taken, SymbolicThread, after_step, edge_of, no_thread, seen_from, start_of, thread_of}
 use Rattle.pg_law_least.specs.Keeps.{AreStacked, MaySetPhis, depth_of, edge_at, instr_of, is_branching, ExtentsKeep, KeepsTo, StoresBy, every, open_before, open_in, steps_of}
 use Rattle.pg_law_least.specs.Along.{Goes, GoesFrom, OpenExtent, StepGoes, Track, calls_behind, extents_behind, extents_in, first_track, made_behind, made_by_event, made_by_kind, region_in}
 use Rattle.pg_law_least.specs.Along.{step_at, with_begun}
@@ -27,7 +27,7 @@ use Rattle.pg_law_least.proofs.KnownCallCounts.{calls_length}
 
 -- ---- steps by their numbers
 
-first_number : (R : Reference) (d : Taken) (n : ℕ) (s : RunShadow) (ms : List Moment) (x : Seen) → Contains (seen_from R d n s ms) x → n ≤ x.number
+first_number : (R : Reference) (d : Taken) (n : ℕ) (s : SymbolicState) (ms : List Moment) (x : Seen) → Contains (seen_from R d n s ms) x → n ≤ x.number
 unfolding seen_from
 first_number R d n s [] x c = absurd (none_in x c)
 first_number R d n s (m ∷ ms) x c = go (cases_in _ (seen_from R d (suc n) (after_step R d n m s) ms) x c) (λ c. first_number R d (suc n) (after_step R d n m s) ms x c)
@@ -38,7 +38,7 @@ first_number R d n s (m ∷ ms) x c = go (cases_in _ (seen_from R d (suc n) (aft
     go (inr c) more = let q = more c in omega (arith, q)
 
 -- a number names one step
-same_number : (R : Reference) (d : Taken) (n : ℕ) (s : RunShadow) (ms : List Moment) (x y : Seen) → Contains (seen_from R d n s ms) x → Contains (seen_from R d n s ms) y →
+same_number : (R : Reference) (d : Taken) (n : ℕ) (s : SymbolicState) (ms : List Moment) (x y : Seen) → Contains (seen_from R d n s ms) x → Contains (seen_from R d n s ms) y →
     x.number ≡ y.number → x ≡ y
 unfolding seen_from
 same_number R d n s [] x y c f q = absurd (none_in x c)
@@ -139,7 +139,7 @@ made_calls R m (Some x) j l = kind m.did.did.kind l
 module _ (R : Reference) where
   -- ---- a step by what it rests on
 
-  keeps_as : (r : FreeRegion) (depth n : ℕ) (m : Moment) (live : Bool) (u : RunShadow) → KeepsTo R r depth (step_at R n m) →
+  keeps_as : (r : FreeRegion) (depth n : ℕ) (m : Moment) (live : Bool) (u : SymbolicState) → KeepsTo R r depth (step_at R n m) →
       KeepsTo R r depth (record { number = n; moment = m; region = region_in R m; live = live; before = u })
   keeps_as r depth n m live u h = record {
     plain = h.plain;
@@ -153,7 +153,7 @@ module _ (R : Reference) where
   }
 
   -- what is known of the run's threads is as was followed, and the open extents are those of the steps that they name
-  record Tracks (u : RunShadow) (a : Track) : Type 0 where
+  record Tracks (u : SymbolicState) (a : Track) : Type 0 where
     threads : length u.threads ≡ a.threads
     calls : (t : ℕ) → t < a.threads → length (thread_of u t).calls ≡ a.calls t
     extents : (t : ℕ) → (thread_of u t).extents ≡ extents_in (a.extents t)
@@ -176,7 +176,7 @@ module _ (R : Reference) where
       none zero = refl
       none (suc t) = refl
 
-  module _ (n : ℕ) (m : Moment) (u : RunShadow) (a b : Track) (tracks : Tracks u a) (goes : StepGoes R n a m b)
+  module _ (n : ℕ) (m : Moment) (u : SymbolicState) (a b : Track) (tracks : Tracks u a) (goes : StepGoes R n a m b)
       (in_run : Contains (steps_of R) (record { number = n; moment = m; region = region_in R m; live = live_at R every n m u; before = u })) where
     begun_in : thread_in m < length u.threads
     begun_in = let q = tracks.threads in let l = goes.known in omega (arith, q, l)
@@ -210,7 +210,7 @@ module _ (R : Reference) where
         let f = tracks.threads in
         let h = goes.more in
         let j : t - length u.threads < made_behind (instr_in R.program m) m.did.did.kind = omega (arith, f, h, l, g) in
-        ap (λ (th : ThreadShadow). length th.calls) (thread_made R every n m u t o g ∙ ap (λ (ts : List ThreadShadow). slice_index_or ts (t - length u.threads) no_thread) made)
+        ap (λ (th : SymbolicThread). length th.calls) (thread_made R every n m u t o g ∙ ap (λ (ts : List SymbolicThread). slice_index_or ts (t - length u.threads) no_thread) made)
         ∙ made_calls R m (instr_in R.program m) (t - length u.threads) j
         ∙ sym (goes.first_call t (omega (arith, f, g)) l)
 
@@ -218,14 +218,14 @@ module _ (R : Reference) where
     calls_next t l = go (cases_eq t (thread_in m))
       where
         go : (t ≡ thread_in m) ⊎ (t ≡ thread_in m → ⊥) → length (thread_of (after_step R every n m u) t).calls ≡ b.calls t
-        go (inl q) = ap (λ (t : ℕ). length (thread_of (after_step R every n m u) t).calls) q ∙ ap (λ (th : ThreadShadow). length th.calls) own_next ∙ calls_own ∙ ap b.calls (sym q)
+        go (inl q) = ap (λ (t : ℕ). length (thread_of (after_step R every n m u) t).calls) q ∙ ap (λ (th : SymbolicThread). length th.calls) own_next ∙ calls_own ∙ ap b.calls (sym q)
         go (inr o) = on (cases_lt t (length u.threads))
           where
             on : (t < length u.threads) ⊎ (length u.threads ≤ t) → length (thread_of (after_step R every n m u) t).calls ≡ b.calls t
             on (inl g) =
                 let f = tracks.threads in
                 let h : t < a.threads = omega (arith, f, g) in
-                ap (λ (th : ThreadShadow). length th.calls) (thread_other R every n m u t o g) ∙ tracks.calls t h ∙ sym (goes.other_calls t o h)
+                ap (λ (th : SymbolicThread). length th.calls) (thread_other R every n m u t o g) ∙ tracks.calls t h ∙ sym (goes.other_calls t o h)
             on (inr g) = calls_new t o g l
 
     extents_own : extents_after R every n m u ≡ extents_in (b.extents (thread_in m))
@@ -238,22 +238,22 @@ module _ (R : Reference) where
     extents_next t = go (cases_eq t (thread_in m))
       where
         go : (t ≡ thread_in m) ⊎ (t ≡ thread_in m → ⊥) → (thread_of (after_step R every n m u) t).extents ≡ extents_in (b.extents t)
-        go (inl q) = ap (λ (t : ℕ). (thread_of (after_step R every n m u) t).extents) q ∙ ap (λ (th : ThreadShadow). th.extents) own_next ∙ extents_own
+        go (inl q) = ap (λ (t : ℕ). (thread_of (after_step R every n m u) t).extents) q ∙ ap (λ (th : SymbolicThread). th.extents) own_next ∙ extents_own
             ∙ ap (λ (t : ℕ). extents_in (b.extents t)) (sym q)
         go (inr o) = on (cases_lt t (length u.threads))
           where
             on : (t < length u.threads) ⊎ (length u.threads ≤ t) → (thread_of (after_step R every n m u) t).extents ≡ extents_in (b.extents t)
-            on (inl g) = ap (λ (th : ThreadShadow). th.extents) (thread_other R every n m u t o g) ∙ tracks.extents t ∙ ap extents_in (sym (goes.other_extents t o))
+            on (inl g) = ap (λ (th : SymbolicThread). th.extents) (thread_other R every n m u t o g) ∙ tracks.extents t ∙ ap extents_in (sym (goes.other_extents t o))
             on (inr g) =
-                ap (λ (th : ThreadShadow). th.extents) (thread_made R every n m u t o g ∙ ap (λ (ts : List ThreadShadow). slice_index_or ts (t - length u.threads) no_thread) made)
+                ap (λ (th : SymbolicThread). th.extents) (thread_made R every n m u t o g ∙ ap (λ (ts : List SymbolicThread). slice_index_or ts (t - length u.threads) no_thread) made)
                 ∙ made_extents R m (instr_in R.program m) (t - length u.threads)
                 ∙ sym (past g)
                 ∙ ap extents_in (sym (goes.other_extents t o))
               where
                 past : length u.threads ≤ t → extents_in (a.extents t) ≡ []
-                past g = sym (tracks.extents t) ∙ ap (λ (th : ThreadShadow). th.extents) (beyond u.threads t g)
+                past g = sym (tracks.extents t) ∙ ap (λ (th : SymbolicThread). th.extents) (beyond u.threads t g)
                   where
-                    beyond : (ts : List ThreadShadow) (t : ℕ) → length ts ≤ t → slice_index_or ts t no_thread ≡ no_thread
+                    beyond : (ts : List SymbolicThread) (t : ℕ) → length ts ≤ t → slice_index_or ts t no_thread ≡ no_thread
                     beyond [] t g = refl
                     beyond (th ∷ ts) zero g = absurd (omega (arith, g))
                     beyond (th ∷ ts) (suc t) g = beyond ts t (omega (arith, g))
@@ -306,7 +306,7 @@ module _ (R : Reference) where
     nested : AreStacked (depth_of y) (edge_at R y) (begun y.number (depth_of y) y.region (open_before y))
     keep : (x : Seen) → Contains (steps_of R) x → (r : FreeRegion) → x.region ≡ Some r → (e : Extent) → Contains (open_before y) e → e.step ≡ x.number → KeepsTo R r e.depth y
 
-  step_keeps : (n : ℕ) (m : Moment) (u : RunShadow) (a b : Track) → Tracks u a → StepGoes R n a m b →
+  step_keeps : (n : ℕ) (m : Moment) (u : SymbolicState) (a b : Track) → Tracks u a → StepGoes R n a m b →
       StepKeeps (record { number = n; moment = m; region = region_in R m; live = live_at R every n m u; before = u })
   step_keeps n m u a b tracks goes = record {
     known = begun_here;
@@ -332,7 +332,7 @@ module _ (R : Reference) where
           keeps_as r e.depth n m (live_at R every n m u) u (subst (λ (s : FreeRegion). KeepsTo R s e.depth (step_at R n m)) g
           (subst (λ (z : Extent). KeepsTo R o.0.region z.depth (step_at R n m)) o.2 k))
 
-  each_keeps : (n : ℕ) (u : RunShadow) (a : Track) (ms : List Moment) → Tracks u a → GoesFrom R n a ms →
+  each_keeps : (n : ℕ) (u : SymbolicState) (a : Track) (ms : List Moment) → Tracks u a → GoesFrom R n a ms →
       ((z : Seen) → Contains (seen_from R every n u ms) z → Contains (steps_of R) z) → (y : Seen) → Contains (seen_from R every n u ms) y → StepKeeps y
   unfolding seen_from
   each_keeps n u a [] tracks goes c y h = absurd (none_in y h)

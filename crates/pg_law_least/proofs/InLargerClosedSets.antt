@@ -7,8 +7,8 @@ use Rattle.pg_run_trace.specs.Races.{overlap}
 use Rattle.pg_slice_rules.specs.declared.decision.Decision.{Decision}
 use Rattle.pg_slice_rules.specs.declared.decision.Decision.TheVariants.{Pinned, Exact}
 use Rattle.pg_slice_rules.specs.Moments.{thread_in}
-use Rattle.pg_slice_rules.specs.Shadows.{Shadow, Known, Bounded, Unknown, blames, bounds_blames}
-use Rattle.pg_slice_rules.specs.Known.{Reference, RunShadow, Seen, Taken, has, seen_in}
+use Rattle.pg_slice_rules.specs.SymbolicValues.{Symbolic, Known, Bounded, Unknown, blames, bounds_blames}
+use Rattle.pg_slice_rules.specs.Known.{Reference, SymbolicState, Seen, Taken, has, seen_in}
 use Rattle.pg_slice_rules.specs.Rules.{Footprint, Need, Value, Bounds, access_footprint, all_of, any_conflict, asks_disturbed, asks_bounds, asks_pins, asks_shared, asks_values, bounds_needs}
 use Rattle.pg_slice_rules.specs.Rules.{bounds_meet, is_bound, is_disturbed, is_plain, is_shared, kind_in, need_blames, region_footprints, value_needs}
 use Rattle.pg_slice_rules.specs.Closed.{AreWithin, IsClosed, asks, asks_at}
@@ -48,7 +48,7 @@ taken_if false c w q h = absurd (true≢false (sym q))
 
 -- ---- what is live stays so
 
-bound_more : (x : Seen) (live : Bool) (before : RunShadow) → (x.live ≡ true → live ≡ true) → is_bound x ≡ true → is_bound (seen_as x live before) ≡ true
+bound_more : (x : Seen) (live : Bool) (before : SymbolicState) → (x.live ≡ true → live ≡ true) → is_bound x ≡ true → is_bound (seen_as x live before) ≡ true
 bound_more x live before h q = go x.live live refl refl
   where
     go : (b c : Bool) → x.live ≡ b → live ≡ c → is_bound (seen_as x live before) ≡ true
@@ -86,14 +86,14 @@ both_more : (a b c d : Bool) → ((a && b) && c) ≡ true → (c ≡ true → d 
 both_more a b c d q h = let p = and_parts (a && b) c q in and_from (a && b) d p.0 (h p.1)
 
 -- the bounds of two steps that meet still do
-meet_more : (x z : Seen) (live also : Bool) (before after : RunShadow) → (x.live ≡ true → live ≡ true) → (z.live ≡ true → also ≡ true) →
+meet_more : (x z : Seen) (live also : Bool) (before after : SymbolicState) → (x.live ≡ true → live ≡ true) → (z.live ≡ true → also ≡ true) →
     bounds_meet x (region_footprints x) z (access_footprint z ++ region_footprints z) ≡ true →
     bounds_meet (seen_as x live before) (region_footprints (seen_as x live before)) (seen_as z also after) (access_footprint (seen_as z also after) ++ region_footprints (seen_as z also after)) ≡ true
 unfolding if_live
 meet_more x z live also before after f g q =
     both_more (not (thread_in x.moment == thread_in z.moment)) (overlap x.moment.did z.moment.did) _ _ q (λ r. conflict_more x.live z.live live also _ _ _ f g r)
 
-shared_more : (x z : Seen) (live also : Bool) (before after : RunShadow) → (x.live ≡ true → live ≡ true) → (z.live ≡ true → also ≡ true) →
+shared_more : (x z : Seen) (live also : Bool) (before after : SymbolicState) → (x.live ≡ true → live ≡ true) → (z.live ≡ true → also ≡ true) →
     bounds_meet x (access_footprint x) z (access_footprint z) ≡ true →
     bounds_meet (seen_as x live before) (access_footprint (seen_as x live before)) (seen_as z also after) (access_footprint (seen_as z also after)) ≡ true
 unfolding if_live
@@ -103,7 +103,7 @@ shared_more x z live also before after f g q =
 -- ---- needs
 
 module _ (e : Taken) where
-  blamed_above : (s t : Shadow) (z : Decision) → Likes e s t → Contains (blames s) z → ((w : Decision) → Contains (blames t) w → ⊥) → has e z ≡ true
+  blamed_above : (s t : Symbolic) (z : Decision) → Likes e s t → Contains (blames s) z → ((w : Decision) → Contains (blames t) w → ⊥) → has e z ≡ true
   blamed_above (Known f g) t z h c none = absurd (none_in z c)
   blamed_above (Bounded g x) (Known u w) z h c none = only (cases_in x [] z c)
     where
@@ -117,9 +117,9 @@ module _ (e : Taken) where
       only : (x ≡ z) ⊎ Contains [] z → has e z ≡ true
       only (inl f) = subst (λ (z : Decision). has e z ≡ true) f q
       only (inr c) = absurd (none_in z c)
-  blamed_above (Unknown x) t z (inr q) c none = absurd (none q.0 (subst (λ (s : Shadow). Contains (blames s) q.0) (sym q.1) (here q.0 [])))
+  blamed_above (Unknown x) t z (inr q) c none = absurd (none q.0 (subst (λ (s : Symbolic). Contains (blames s) q.0) (sym q.1) (here q.0 [])))
 
-  bounds_above : (s t : Shadow) (z : Decision) → Likes e s t → Contains (bounds_blames s) z → ((w : Decision) → Contains (bounds_blames t) w → ⊥) → has e z ≡ true
+  bounds_above : (s t : Symbolic) (z : Decision) → Likes e s t → Contains (bounds_blames s) z → ((w : Decision) → Contains (bounds_blames t) w → ⊥) → has e z ≡ true
   bounds_above (Known f g) t z h c none = absurd (none_in z c)
   bounds_above (Bounded g x) t z h c none = absurd (none_in z c)
   bounds_above (Unknown x) t z (inl q) c none = only (cases_in x [] z c)
@@ -127,7 +127,7 @@ module _ (e : Taken) where
       only : (x ≡ z) ⊎ Contains [] z → has e z ≡ true
       only (inl f) = subst (λ (z : Decision). has e z ≡ true) f q
       only (inr c) = absurd (none_in z c)
-  bounds_above (Unknown x) t z (inr q) c none = absurd (none q.0 (subst (λ (s : Shadow). Contains (bounds_blames s) q.0) (sym q.1) (here q.0 [])))
+  bounds_above (Unknown x) t z (inr q) c none = absurd (none q.0 (subst (λ (s : Symbolic). Contains (bounds_blames s) q.0) (sym q.1) (here q.0 [])))
 
   need_above : (a b : Need) (z : Decision) → NeedLike (Likes e) a b → Contains (need_blames a) z → ((w : Decision) → Contains (need_blames b) w → ⊥) → has e z ≡ true
   need_above (Value s a) (Value t b) z h c none = blamed_above s t z h.0 c none

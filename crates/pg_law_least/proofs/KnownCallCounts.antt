@@ -13,9 +13,9 @@ use Rattle.pg_run_trace.specs.declared.step.StepKind.TheVariants as kinds
 use Rattle.pg_run_trace.specs.declared.step.Event.{Event}
 use Rattle.pg_slice_rules.specs.Moments.{Moment, instr_in}
 use Rattle.pg_slice_rules.specs.Freeable.{FreeRegion, Regions, region_at}
-use Rattle.pg_slice_rules.specs.Shadows.{Shadow}
+use Rattle.pg_slice_rules.specs.SymbolicValues.{Symbolic}
 use Rattle.pg_slice_rules.specs.Extents.{Extent, begun, edge_by, edge_in, ends, open_after}
-use Rattle.pg_slice_rules.specs.Known.{RunShadow, Taken, after_event, after_op, edge_of, is_branch, region_of, result_in, under_top, with_top}
+use Rattle.pg_slice_rules.specs.Known.{SymbolicState, Taken, after_event, after_op, edge_of, is_branch, region_of, result_in, under_top, with_top}
 use Rattle.pg_law_least.specs.Keeps.{AreStacked, is_branching}
 use Rattle.pg_law_least.specs.Along.{calls_behind, calls_by_event, calls_by_kind, calls_by_op}
 use Rattle.pg_law_least.proofs.LiveSteps.{calls_by}
@@ -24,16 +24,16 @@ use Rattle.pg_law_least.proofs.OldestFreeExtent.{begun_free, begun_pinned, begun
 
 -- ---- how many calls there are after a live step
 
-top_length : (f : List Shadow → List Shadow) (cs : List (List Shadow)) → length (with_top f cs) ≡ length cs
+top_length : (f : List Symbolic → List Symbolic) (cs : List (List Symbolic)) → length (with_top f cs) ≡ length cs
 top_length f [] = refl
 top_length f (rs ∷ cs) = refl
 
-under_length : (cs : List (List Shadow)) → length (under_top cs) ≡ length cs - 1
+under_length : (cs : List (List Symbolic)) → length (under_top cs) ≡ length cs - 1
 under_length [] = omega arith
 under_length (rs ∷ cs) = omega arith
 
-module _ (p : NumberedProgram) (d : Taken) (n : ℕ) (m : Moment) (region : Option FreeRegion) (s : RunShadow) where
-  op_length : (pinned : Bool) (result : ℕ) (x : Instr) (o : Op) (cs : List (List Shadow)) → length (after_op p pinned n m region result x o cs) ≡ calls_by_op o (length cs)
+module _ (p : NumberedProgram) (d : Taken) (n : ℕ) (m : Moment) (region : Option FreeRegion) (s : SymbolicState) where
+  op_length : (pinned : Bool) (result : ℕ) (x : Instr) (o : Op) (cs : List (List Symbolic)) → length (after_op p pinned n m region result x o cs) ≡ calls_by_op o (length cs)
   op_length pinned result x (op.Br to) cs = top_length _ cs
   op_length pinned result x (op.CondBr c a b) cs = top_length _ cs
   op_length pinned result x (op.Switch w on other cases) cs = top_length _ cs
@@ -44,7 +44,7 @@ module _ (p : NumberedProgram) (d : Taken) (n : ℕ) (m : Moment) (region : Opti
   op_length pinned result x (op.Gep base indices) cs = top_length _ cs
   op_length pinned result x _ cs = top_length _ cs
 
-  event_length : (v : Event) (kind : TurnKind) (a : Shadow) (x : Instr) (cs : List (List Shadow)) → length (after_event p m v kind a x cs) ≡ calls_by_event kind (length cs)
+  event_length : (v : Event) (kind : TurnKind) (a : Symbolic) (x : Instr) (cs : List (List Symbolic)) → length (after_event p m v kind a x cs) ≡ calls_by_event kind (length cs)
   event_length v turns.Start a x cs = top_length _ cs
   event_length v turns.Exit a x cs = refl
   event_length v turns.Wait a x cs = refl
@@ -52,12 +52,12 @@ module _ (p : NumberedProgram) (d : Taken) (n : ℕ) (m : Moment) (region : Opti
   event_length v turns.Putchar a x cs = top_length _ cs
   event_length v _ a x cs = top_length _ cs
 
-  kind_length : (x : Instr) (kind : StepKind) (cs : List (List Shadow)) → length (calls_by p d n m region x kind s cs) ≡ calls_by_kind x kind (length cs)
+  kind_length : (x : Instr) (kind : StepKind) (cs : List (List Symbolic)) → length (calls_by p d n m region x kind s cs) ≡ calls_by_kind x kind (length cs)
   kind_length x (kinds.Access a) cs = top_length _ cs
   kind_length x (kinds.Event v) cs = event_length v v.kind _ x cs
   kind_length x kind cs = op_length (d.pinned n) (result_in kind) x x.op cs
 
-  pub calls_length : (i : Option Instr) (cs : List (List Shadow)) → length (calls_after p d n m region i s cs) ≡ calls_behind i m.did.did.kind (length cs)
+  pub calls_length : (i : Option Instr) (cs : List (List Symbolic)) → length (calls_after p d n m region i s cs) ≡ calls_behind i m.did.did.kind (length cs)
   calls_length None cs = refl
   calls_length (Some x) cs = kind_length x m.did.did.kind cs
 

@@ -6,7 +6,7 @@ use Rattle.std.proofs.lemmas.Bool.{and_parts, and_from}
 use Rattle.std.proofs.lemmas.List.Elements.{Contains-append_cases, Contains-append_left, Contains-append_right}
 use Rattle.pg_precondition.specs.declared.check.Test.{Test}
 use Rattle.pg_precondition.specs.Values.{is_met}
-use Rattle.pg_slice_rules.specs.Shadows.{OnInput, Shadow, Known, Bounded, Unknown, unset}
+use Rattle.pg_slice_rules.specs.SymbolicValues.{OnInput, Symbolic, Known, Bounded, Unknown, unset}
 use Rattle.pg_slice_rules.specs.Known.{Reference, Seen, Taken, seen_in}
 use Rattle.pg_slice_rules.specs.Rules.{Condition, Need, Value, Bounds, all_of, bounds_needs, need_conditions, registers_before, value_needs}
 use Rattle.pg_slice_rules.specs.Closed.{AreWithin, admits, conditions, conditions_at}
@@ -46,13 +46,13 @@ module _ (e : Taken) (input : List ℤ) where
   need_met : (a b : Need) → NeedLike (Likes e) a b → ((c : Condition) → Contains (need_conditions b) c → IsMet c) →
       (c : Condition) → Contains (need_conditions a) c → IsMet c
   need_met (Value (Known f g) a) (Value t b) h met c q =
-      met c (subst (λ (z : Need). Contains (need_conditions z) c) (sym (ap (λ (s : Shadow). Value s b) h.0 ∙ ap (Value (Known f g)) h.1)) q)
+      met c (subst (λ (z : Need). Contains (need_conditions z) c) (sym (ap (λ (s : Symbolic). Value s b) h.0 ∙ ap (Value (Known f g)) h.1)) q)
   need_met (Value (Bounded g x) a) (Value t b) h met c q = absurd (none_in c q)
   need_met (Value (Unknown x) a) (Value t b) h met c q = absurd (none_in c q)
   need_met (Value s a) (Bounds t b) h met c q = absurd h
   need_met (Bounds s a) (Value t b) h met c q = absurd h
   need_met (Bounds (Known f g) a) (Bounds t b) h met c q =
-      met c (subst (λ (z : Need). Contains (need_conditions z) c) (sym (ap (λ (s : Shadow). Bounds s b) h.0 ∙ ap (Bounds (Known f g)) h.1)) q)
+      met c (subst (λ (z : Need). Contains (need_conditions z) c) (sym (ap (λ (s : Symbolic). Bounds s b) h.0 ∙ ap (Bounds (Known f g)) h.1)) q)
   need_met (Bounds (Bounded g x) a) (Bounds (Known u w) b) h met c q = only (cases_in _ [] c q)
     where
       only : (record { value = g; test = a } ≡ c) ⊎ Contains [] c → IsMet c
@@ -103,8 +103,8 @@ admits_more R keeps d e within input h =
 
 -- ---- what is known
 
-like_known : (e : Taken) (s t : Shadow) (f g : OnInput) → Likes e s t → s ≡ Known f g → t ≡ Known f g
-like_known e s t f g h q = subst (λ (s : Shadow). Likes e s t) q h
+like_known : (e : Taken) (s t : Symbolic) (f g : OnInput) → Likes e s t → s ≡ Known f g → t ≡ Known f g
+like_known e s t f g h q = subst (λ (s : Symbolic). Likes e s t) q h
 
 stay_known : (e : Taken) (x y : Seen) → SeenLike (Likes e) x y → StayKnown x y
 stay_known e x y h = record {

@@ -12,54 +12,54 @@ use Rattle.pg_run_trace.specs.declared.step.StepKind.TheVariants as kinds
 use Rattle.pg_run_trace.specs.declared.step.Event.{Event}
 use Rattle.pg_slice_rules.specs.Moments.{Moment, instr_in, thread_in}
 use Rattle.pg_slice_rules.specs.Freeable.{FreeRegion}
-use Rattle.pg_slice_rules.specs.Shadows.{Shadow}
+use Rattle.pg_slice_rules.specs.SymbolicValues.{Symbolic}
 use Rattle.pg_slice_rules.specs.Extents.{Extent, is_live, open_after}
-use Rattle.pg_slice_rules.specs.Known.{Reference, RunShadow, Taken, ThreadShadow, after_step, edge_of, fresh_thread, live_after, no_thread, region_of, thread_of, threads_after, with_extents}
+use Rattle.pg_slice_rules.specs.Known.{Reference, SymbolicState, Taken, SymbolicThread, after_step, edge_of, fresh_thread, live_after, no_thread, region_of, thread_of, threads_after, with_extents}
 use Rattle.pg_law_least.proofs.LiveSteps.{calls_by, known_bytes, known_words}
 
 -- ---- the parts after a step
 
-abbrev pub calls_after : NumberedProgram → Taken → ℕ → Moment → Option FreeRegion → Option Instr → RunShadow → List (List Shadow) → List (List Shadow)
+abbrev pub calls_after : NumberedProgram → Taken → ℕ → Moment → Option FreeRegion → Option Instr → SymbolicState → List (List Symbolic) → List (List Symbolic)
 calls_after p d n m region None s calls = calls
 calls_after p d n m region (Some x) s calls = calls_by p d n m region x m.did.did.kind s calls
 
-abbrev pub bytes_after : NumberedProgram → Taken → ℕ → Moment → Option FreeRegion → Option Instr → RunShadow → ℕ → Shadow
+abbrev pub bytes_after : NumberedProgram → Taken → ℕ → Moment → Option FreeRegion → Option Instr → SymbolicState → ℕ → Symbolic
 bytes_after p d n m region None s = s.bytes
 bytes_after p d n m region (Some x) s = known_bytes p d n m region x m.did.did.kind s
 
-abbrev pub words_behind : NumberedProgram → Moment → Option Instr → RunShadow → List Shadow
+abbrev pub words_behind : NumberedProgram → Moment → Option Instr → SymbolicState → List Symbolic
 words_behind p m None s = s.words
 words_behind p m (Some x) s = known_words p m x m.did.did.kind s
 
 -- the thread that a create makes
-abbrev pub made_by : NumberedProgram → Event → TurnKind → List ThreadShadow
+abbrev pub made_by : NumberedProgram → Event → TurnKind → List SymbolicThread
 made_by p e turns.Create = fresh_thread p (slice_index e.operands 2) ∷ []
 made_by p e kind = []
 
-abbrev pub made_in : NumberedProgram → StepKind → List ThreadShadow
+abbrev pub made_in : NumberedProgram → StepKind → List SymbolicThread
 made_in p (kinds.Event e) = made_by p e e.kind
 made_in p k = []
 
-abbrev pub made_at : NumberedProgram → Moment → Option Instr → List ThreadShadow
+abbrev pub made_at : NumberedProgram → Moment → Option Instr → List SymbolicThread
 made_at p m None = []
 made_at p m (Some x) = made_in p m.did.did.kind
 
 -- the threads with new calls of one
-abbrev pub with_calls : ℕ → List (List Shadow) → List ThreadShadow → List ThreadShadow
+abbrev pub with_calls : ℕ → List (List Symbolic) → List SymbolicThread → List SymbolicThread
 with_calls t calls threads = slice_set threads t (record (slice_index_or threads t no_thread) { calls = calls })
 
 end_nil : {A : Type 0} (xs : List A) → xs ≡ xs ++ []
 end_nil [] = refl
 end_nil (x ∷ xs) = ap (λ ys. x ∷ ys) (end_nil xs)
 
-made_threads : (p : NumberedProgram) (e : Event) (kind : TurnKind) (threads : List ThreadShadow) → threads_after p e kind threads ≡ threads ++ made_by p e kind
+made_threads : (p : NumberedProgram) (e : Event) (kind : TurnKind) (threads : List SymbolicThread) → threads_after p e kind threads ≡ threads ++ made_by p e kind
 made_threads p e turns.Create threads = refl
 made_threads p e _ threads = end_nil threads
 
-same_thread : (t : ℕ) (threads : List ThreadShadow) → threads ≡ with_calls t (slice_index_or threads t no_thread).calls threads
+same_thread : (t : ℕ) (threads : List SymbolicThread) → threads ≡ with_calls t (slice_index_or threads t no_thread).calls threads
 same_thread t threads = sym (set-get_or threads t no_thread)
 
-module _ (p : NumberedProgram) (d : Taken) (n : ℕ) (m : Moment) (region : Option FreeRegion) (s : RunShadow) where
+module _ (p : NumberedProgram) (d : Taken) (n : ℕ) (m : Moment) (region : Option FreeRegion) (s : SymbolicState) where
   by_kind : (x : Instr) (k : StepKind) → m.did.did.kind ≡ k →
       (live_after p d n m region (Some x) s).threads ≡ with_calls (thread_in m) (calls_by p d n m region x k s (thread_of s (thread_in m)).calls) s.threads ++ made_in p k
   by_kind x (kinds.Event e) q = rw q (made_threads p e e.kind _)
@@ -87,19 +87,19 @@ module _ (p : NumberedProgram) (d : Taken) (n : ℕ) (m : Moment) (region : Opti
   live_words (Some x) = words_kind x m.did.did.kind refl
 
   -- where the step may be live or not
-  abbrev pub own_calls : Bool → Option Instr → List (List Shadow)
+  abbrev pub own_calls : Bool → Option Instr → List (List Symbolic)
   own_calls b i = if b then calls_after p d n m region i s (thread_of s (thread_in m)).calls else (thread_of s (thread_in m)).calls
 
-  abbrev pub own_bytes : Bool → Option Instr → ℕ → Shadow
+  abbrev pub own_bytes : Bool → Option Instr → ℕ → Symbolic
   own_bytes b i = if b then bytes_after p d n m region i s else s.bytes
 
-  abbrev pub own_words : Bool → Option Instr → List Shadow
+  abbrev pub own_words : Bool → Option Instr → List Symbolic
   own_words b i = if b then words_behind p m i s else s.words
 
-  abbrev pub own_made : Bool → Option Instr → List ThreadShadow
+  abbrev pub own_made : Bool → Option Instr → List SymbolicThread
   own_made b i = if b then made_at p m i else []
 
-  abbrev state_by : Bool → Option Instr → RunShadow
+  abbrev state_by : Bool → Option Instr → SymbolicState
   state_by b i = if b then live_after p d n m region i s else s
 
   pub state_threads : (b : Bool) (i : Option Instr) → (state_by b i).threads ≡ with_calls (thread_in m) (own_calls b i) s.threads ++ own_made b i
@@ -116,8 +116,8 @@ module _ (p : NumberedProgram) (d : Taken) (n : ℕ) (m : Moment) (region : Opti
 
 -- ---- threads with new calls and extents of one, and with more behind
 
-module _ (t : ℕ) (calls : List (List Shadow)) (es : List Extent) (xs made : List ThreadShadow) where
-  abbrev renewed : List ThreadShadow
+module _ (t : ℕ) (calls : List (List Symbolic)) (es : List Extent) (xs made : List SymbolicThread) where
+  abbrev renewed : List SymbolicThread
   renewed = with_calls t calls xs ++ made
 
   renewed_long : length renewed ≡ length xs + length made
@@ -133,7 +133,7 @@ module _ (t : ℕ) (calls : List (List Shadow)) (es : List Extent) (xs made : Li
       let b : slice_index_or (with_calls t calls xs) t no_thread ≡ record (slice_index_or xs t no_thread) { calls = calls } =
       get_or-set_same xs t (record (slice_index_or xs t no_thread) { calls = calls }) no_thread l in
       get_or-set_same renewed t (record (slice_index_or renewed t no_thread) { extents = es }) no_thread (omega (arith, renewed_long, l))
-      ∙ ap (λ (h : ThreadShadow). record h { extents = es }) (a ∙ b)
+      ∙ ap (λ (h : SymbolicThread). record h { extents = es }) (a ∙ b)
 
   with_other : (u : ℕ) → (u ≡ t → ⊥) → u < length xs → slice_index_or (with_extents t es renewed) u no_thread ≡ slice_index_or xs u no_thread
   with_other u o l =
@@ -148,7 +148,7 @@ module _ (t : ℕ) (calls : List (List Shadow)) (es : List Extent) (xs made : Li
 
 -- ---- after a whole step
 
-module _ (R : Reference) (d : Taken) (n : ℕ) (m : Moment) (s : RunShadow) where
+module _ (R : Reference) (d : Taken) (n : ℕ) (m : Moment) (s : SymbolicState) where
   abbrev pub own_region : Option FreeRegion
   own_region = region_of R.program R.regions m (instr_in R.program m)
 
@@ -161,16 +161,16 @@ module _ (R : Reference) (d : Taken) (n : ℕ) (m : Moment) (s : RunShadow) wher
   abbrev pub live_at : Bool
   live_at = is_live d.pinned own_extents
 
-  abbrev pub next_calls : List (List Shadow)
+  abbrev pub next_calls : List (List Symbolic)
   next_calls = own_calls R.program d n m own_region s live_at (instr_in R.program m)
 
-  abbrev pub next_bytes : ℕ → Shadow
+  abbrev pub next_bytes : ℕ → Symbolic
   next_bytes = own_bytes R.program d n m own_region s live_at (instr_in R.program m)
 
-  abbrev pub next_words : List Shadow
+  abbrev pub next_words : List Symbolic
   next_words = own_words R.program d n m own_region s live_at (instr_in R.program m)
 
-  abbrev pub next_made : List ThreadShadow
+  abbrev pub next_made : List SymbolicThread
   next_made = own_made R.program d n m own_region s live_at (instr_in R.program m)
 
   pub bytes_next : (after_step R d n m s).bytes ≡ next_bytes
@@ -186,10 +186,10 @@ module _ (R : Reference) (d : Taken) (n : ℕ) (m : Moment) (s : RunShadow) wher
   length_next = ap length threads_next ∙ with_long (thread_in m) next_calls extents_after s.threads next_made
 
   pub thread_own : thread_in m < length s.threads → thread_of (after_step R d n m s) (thread_in m) ≡ record { calls = next_calls; extents = extents_after }
-  thread_own l = ap (λ (xs : List ThreadShadow). slice_index_or xs (thread_in m) no_thread) threads_next ∙ with_own (thread_in m) next_calls extents_after s.threads next_made l
+  thread_own l = ap (λ (xs : List SymbolicThread). slice_index_or xs (thread_in m) no_thread) threads_next ∙ with_own (thread_in m) next_calls extents_after s.threads next_made l
 
   pub thread_other : (u : ℕ) → (u ≡ thread_in m → ⊥) → u < length s.threads → thread_of (after_step R d n m s) u ≡ thread_of s u
-  thread_other u o l = ap (λ (xs : List ThreadShadow). slice_index_or xs u no_thread) threads_next ∙ with_other (thread_in m) next_calls extents_after s.threads next_made u o l
+  thread_other u o l = ap (λ (xs : List SymbolicThread). slice_index_or xs u no_thread) threads_next ∙ with_other (thread_in m) next_calls extents_after s.threads next_made u o l
 
   pub thread_made : (u : ℕ) → (u ≡ thread_in m → ⊥) → length s.threads ≤ u → thread_of (after_step R d n m s) u ≡ slice_index_or next_made (u - length s.threads) no_thread
-  thread_made u o l = ap (λ (xs : List ThreadShadow). slice_index_or xs u no_thread) threads_next ∙ with_made (thread_in m) next_calls extents_after s.threads next_made u o l
+  thread_made u o l = ap (λ (xs : List SymbolicThread). slice_index_or xs u no_thread) threads_next ∙ with_made (thread_in m) next_calls extents_after s.threads next_made u o l

@@ -12,7 +12,7 @@ use Rattle.pg_run_trace.specs.declared.turn.TurnKind.TheVariants as turns
 use Rattle.pg_run_trace.specs.Steps.{range_of}
 use Rattle.pg_slice_rules.specs.Moments.{Moment, instr_in, thread_in}
 use Rattle.pg_slice_rules.specs.Freeable.{FreeRegion, bounds_of}
-use Rattle.pg_slice_rules.specs.Shadows.{is_within}
+use Rattle.pg_slice_rules.specs.SymbolicValues.{is_within}
 use Rattle.pg_slice_rules.specs.Extents.{Extent, begun, ends}
 use Rattle.pg_slice_rules.specs.Known.{Reference, Seen, edge_of, region_of, start_of}
 use Rattle.pg_law_least.specs.Keeps.{AreStacked, KeepsTo, MaySetPhis, StoresBy, is_branching}

@@ -13,7 +13,7 @@ use Rattle.pg_run_trace.specs.declared.step.StepKind.TheVariants as kinds
 use Rattle.pg_run_trace.specs.Steps.{happening_in, range_of}
 use Rattle.pg_slice_rules.specs.Moments.{instr_in, thread_in}
 use Rattle.pg_slice_rules.specs.Freeable.{FreeAccess, FreeRegion, bounds_of}
-use Rattle.pg_slice_rules.specs.Shadows.{is_within}
+use Rattle.pg_slice_rules.specs.SymbolicValues.{is_within}
 use Rattle.pg_slice_rules.specs.Extents.{Extent, begun, ends}
 use Rattle.pg_slice_rules.specs.Known.{Reference, Seen, Taken, caller_target, edge_of, seen_in, thread_of}
 use Rattle.pg_slice_rules.specs.Rules.{kind_in}

@@ -7,7 +7,7 @@ use Rattle.pg_slice_rules.specs.declared.decision.Decision.TheVariants.{Pinned, 
 use Rattle.pg_slice_rules.specs.Closed.{AreWithin, IsClosed, IsSlice, admits, asks}
 use Rattle.pg_slice_rules.specs.Known.{Reference, Seen, Taken, has, seen_in}
 use Rattle.pg_slice_rules.specs.Rules.{kind_in, registers_before}
-use Rattle.pg_slice_rules.specs.Shadows.{OnInput, Known, unset}
+use Rattle.pg_slice_rules.specs.SymbolicValues.{OnInput, Known, unset}
 use Rattle.pg_law_least.specs.Keeps.{every, open_in, steps_of}
 
 -- the number of the step that a decision fixes

@@ -20,8 +20,8 @@ use Rattle.pg_run.proofs.ActionPlaces.{place_is}
 use Rattle.pg_slice_rules.specs.Freeable.{BranchRegion, FreeAccess, FreeRegion, RegionAccess, Regions, accesses_at, if_apart, one_access, region_at, registers_by, stores_on}
 use Rattle.pg_slice_rules.specs.Known.{Seen, is_branch, region_of}
 use Rattle.pg_slice_rules.specs.Moments.{Moment, number_in, registers_in}
-use Rattle.pg_slice_rules.specs.Rules.{free_access_needs, moved_shadow, path_needs, region_needs_in, registers_before, root_shadow}
-use Rattle.pg_slice_rules.specs.Shadows.{Shadow, Known, Bounded, Unknown, loaded}
+use Rattle.pg_slice_rules.specs.Rules.{free_access_needs, moved_symbolic, path_needs, region_needs_in, registers_before, root_symbolic}
+use Rattle.pg_slice_rules.specs.SymbolicValues.{Symbolic, Known, Bounded, Unknown, loaded}
 use Rattle.pg_law_plan.specs.Likes.{AreLike, HasBoundsOf, IsLike}
 use Rattle.pg_law_plan.proofs.AccessFits.{loaded_like}
 use Rattle.pg_law_plan.proofs.LikeOperands.{operand_like, valued_like}
@@ -83,12 +83,12 @@ module _ (input : List ℤ) where
   still_bounded k word None h = absurd h
   still_bounded k word (Some w) h = record { start = start-moved_by word (pos k) ∙ h.start; length = length-moved_by word (pos k) ∙ h.length }
 
-  moved_given : (k : ℕ) (s : Shadow) (word : ℕ) → IsLike input s (Some word) → IsLike input (moved_shadow k s) (Some (moved_by word (pos k)))
+  moved_given : (k : ℕ) (s : Symbolic) (word : ℕ) → IsLike input s (Some word) → IsLike input (moved_symbolic k s) (Some (moved_by word (pos k)))
   moved_given k (Known f g) word h = (ap (λ (o : Option ℕ). with_one o (λ w. Some (moved_by w (pos k)))) h.0, still_bounded k word (g input) h.1)
   moved_given k (Bounded f x) word h = still_bounded k word (f input) h
   moved_given k (Unknown x) word h = tt
 
-  module _ (bytes : ℕ → Shadow) (m : ℕ → ℕ) (cells : (c : ℕ) → nat_lt c MEMORY_BYTES ≡ true → IsLike input (bytes c) (Some (m c))) where
+  module _ (bytes : ℕ → Symbolic) (m : ℕ → ℕ) (cells : (c : ℕ) → nat_lt c MEMORY_BYTES ≡ true → IsLike input (bytes c) (Some (m c))) where
     cell_given : (word k : ℕ) (cell : ByteRange) → cell_at word k ≡ Some cell → IsLike input (loaded bytes cell.start 8) (Some (number_of m cell.start cell.bytes))
     cell_given word k cell e =
         let w = moved_by word (pos k) in
@@ -99,7 +99,7 @@ module _ (input : List ℤ) where
     abbrev memory : ByteRange → ℕ
     memory r = number_of m r.start r.bytes
 
-    path_given : (offsets : List ℕ) (word : ℕ) (s : Shadow) (at : Followed) → IsLike input s (Some word)
+    path_given : (offsets : List ℕ) (word : ℕ) (s : Symbolic) (at : Followed) → IsLike input s (Some word)
         → followed_from (λ (r : ByteRange). number_of m r.start r.bytes) word offsets ≡ Some at →
         AllOf (IsGiven input) (path_needs bytes s offsets at.pointers at.cells at.last)
     path_given [] word s at h e =
@@ -125,9 +125,9 @@ module _ (input : List ℤ) where
                   more cell f (cell_given word k cell q) r,
                 )
 
-  module _ (p : NumberedProgram) (ks : List Shadow) (rs : List (Option ℕ)) (alike : AreLike input ks rs) where
-    root_given : (r : Root) (word : ℕ) → root_value p (registers_by rs) r ≡ Some word → IsLike input (root_shadow p ks r) (Some word)
-    root_given (root.Register r) word e = subst (λ (o : Option ℕ). IsLike input (root_shadow p ks (root.Register r)) o) e (operand_like input p ks rs alike (value.Register r))
+  module _ (p : NumberedProgram) (ks : List Symbolic) (rs : List (Option ℕ)) (alike : AreLike input ks rs) where
+    root_given : (r : Root) (word : ℕ) → root_value p (registers_by rs) r ≡ Some word → IsLike input (root_symbolic p ks r) (Some word)
+    root_given (root.Register r) word e = subst (λ (o : Option ℕ). IsLike input (root_symbolic p ks (root.Register r)) o) e (operand_like input p ks rs alike (value.Register r))
     root_given (root.Global g) word e = valued_like input (λ i. root_value p (λ k. None) (root.Global g)) (Some word) (sym e)
     root_given (root.Const n) word e = valued_like input (λ i. root_value p (λ k. None) (root.Const n)) (Some word) (sym e)
     root_given (root.Param k) word e = absurd cc
@@ -143,7 +143,7 @@ module _ (input : List ℤ) where
         go : (o : Option ℕ) → root_value p (registers_by (registers_in x.moment.calls)) a.path.root ≡ o
             → option_and_then (λ word. followed_from (number_in x.moment) word (offsets_of a.path.loads)) o ≡ Some a.at → AllOf (IsGiven input) (free_access_needs p x a)
         go None q e = absurd cc
-        go (Some word) q e = path_given x.before.bytes x.moment.bytes cells (offsets_of a.path.loads) word (root_shadow p (registers_before x) a.path.root) a.at
+        go (Some word) q e = path_given x.before.bytes x.moment.bytes cells (offsets_of a.path.loads) word (root_symbolic p (registers_before x) a.path.root) a.at
             (root_given p (registers_before x) (registers_in x.moment.calls) alike a.path.root word q) e
 
     each_access : (xs : List FreeAccess) → AllOf (IsFollowed p x.moment) xs → AllOf (λ (a : FreeAccess). AllOf (IsGiven input) (free_access_needs p x a)) xs

@@ -9,7 +9,7 @@ use Rattle.pg_precondition.specs.Values.{is_met}
 use Rattle.pg_slice_rules.specs.Closed.{admits, conditions, conditions_at}
 use Rattle.pg_slice_rules.specs.Known.{Reference, Seen, Taken, seen_in}
 use Rattle.pg_slice_rules.specs.Rules.{Condition, Need, Value, Bounds, all_of, conditions_with, bounds_needs, if_some, need_blames, need_conditions, same_bounds, value_needs}
-use Rattle.pg_slice_rules.specs.Shadows.{OnInput, Known, Bounded, Unknown}
+use Rattle.pg_slice_rules.specs.SymbolicValues.{OnInput, Known, Bounded, Unknown}
 use Rattle.pg_law_plan.specs.Likes.{HaveSameBounds, HasBoundsOf, IsLike}
 use Rattle.pg_law_plan.proofs.StepChecks.{Holds, IsGood}
 use Rattle.pg_law_plan.proofs.UnitsArePlan.{append_none}

@@ -25,7 +25,7 @@ use Rattle.pg_law_effects.proofs.ReachedStates.{reached_first, reached_step}
 use Rattle.pg_law_effects.proofs.StepViews.{leads_to}
 use Rattle.pg_slice_rules.specs.Closed.{admits}
 use Rattle.pg_slice_rules.specs.Extents.{Extent, is_live}
-use Rattle.pg_slice_rules.specs.Known.{RunShadow, Seen, after_step, region_of, seen_from, seen_in, start_of, thread_of}
+use Rattle.pg_slice_rules.specs.Known.{SymbolicState, Seen, after_step, region_of, seen_from, seen_in, start_of, thread_of}
 use Rattle.pg_slice_rules.specs.Moments.{Moment, calls_of, instr_in, moments_from, thread_in}
 use Rattle.pg_slice_rules.specs.Rules.{asks_bounds, asks_values, has_region, footprints_in}
 use Rattle.pg_law_least.specs.Keeps.{every}
@@ -59,7 +59,7 @@ live_always [] = refl
 live_always (e ∷ es) = live_always es
 
 -- what is known in a state is like what the machine has there: of each thread and of each cell
-pub record IsTrue (r : ReferenceRun) (known : RunShadow) (s : State) : Type 0 where
+pub record IsTrue (r : ReferenceRun) (known : SymbolicState) (s : State) : Type 0 where
   pub reached : IsReached r.program s
   pub words : length known.words ≡ length s.locals
   pub started : AreFresh r.program known s
@@ -67,7 +67,7 @@ pub record IsTrue (r : ReferenceRun) (known : RunShadow) (s : State) : Type 0 wh
   pub cells : (c : ℕ) → IsCellLike r.input (cell_known known c) (cell_at s c)
 
 -- step n, with what is known before it
-abbrev pub seen_at : ReferenceRun → ℕ → Moment → RunShadow → Seen
+abbrev pub seen_at : ReferenceRun → ℕ → Moment → SymbolicState → Seen
 seen_at r n m known = record {
   number = n;
   moment = m;
@@ -83,7 +83,7 @@ AsksNothing r x = (asks_values (reference_of r) every x ≡ []) × (asks_bounds 
 module _ (r : ReferenceRun) (program : IsProgram r.program) (small : length r.input < 2 ^ 64) where
   -- ---- a step
 
-  module _ (n : ℕ) (m : Moment) (known : RunShadow) (s : State) (h : Takes r.gated r.program r.input s m.did.did) (holds : IsTrue r known s)
+  module _ (n : ℕ) (m : Moment) (known : SymbolicState) (s : State) (h : Takes r.gated r.program r.input s m.did.did) (holds : IsTrue r known s)
       (calls : m.calls ≡ calls_of (slice_get s.locals (thread_in m))) (bytes : m.bytes ≡ byte_at s.memory) where
     abbrev t : ℕ
     t = thread_in m
@@ -91,7 +91,7 @@ module _ (r : ReferenceRun) (program : IsProgram r.program) (small : length r.in
     abbrev pub x : Seen
     x = seen_at r n m known
 
-    abbrev after : RunShadow
+    abbrev after : SymbolicState
     after = after_step (reference_of r) every n m known
 
     abbrev u : PlanUnit
@@ -198,9 +198,9 @@ module _ (r : ReferenceRun) (program : IsProgram r.program) (small : length r.in
   -- ---- the run
 
   -- what holds of each step where what is known is true holds along the run
-  along : (P : Seen → Type 0) → ((n : ℕ) (m : Moment) (known : RunShadow) (s : State) → Takes r.gated r.program r.input s m.did.did → IsTrue r known s
+  along : (P : Seen → Type 0) → ((n : ℕ) (m : Moment) (known : SymbolicState) (s : State) → Takes r.gated r.program r.input s m.did.did → IsTrue r known s
       → m.calls ≡ calls_of (slice_get s.locals (thread_in m)) → m.bytes ≡ byte_at s.memory → AsksNothing r (seen_at r n m known) → P (seen_at r n m known)) →
-      (T : List ℕ) (k n : ℕ) (known : RunShadow) (s z : State) (xs : List Step) → IsRun r.gated r.program r.input s xs z → IsTrue r known s →
+      (T : List ℕ) (k n : ℕ) (known : SymbolicState) (s z : State) (xs : List Step) → IsRun r.gated r.program r.input s xs z → IsTrue r known s →
       AllOf (AsksNothing r) (seen_from (reference_of r) every n known (moments_from r.gated r.program r.input s (times recorded T k xs))) →
       AllOf P (seen_from (reference_of r) every n known (moments_from r.gated r.program r.input s (times recorded T k xs)))
   unfolding seen_from moments_from
@@ -234,7 +234,7 @@ module _ (r : ReferenceRun) (o : IsMachineRun r) where
       (none_asked (asks_bounds R) (seen_in R every) closed.bounds)
 
   -- what holds of each step where what is known is true
-  pub each_step : (P : Seen → Type 0) → ((n : ℕ) (m : Moment) (known : RunShadow) (s : State) → Takes r.gated r.program r.input s m.did.did → IsTrue r known s
+  pub each_step : (P : Seen → Type 0) → ((n : ℕ) (m : Moment) (known : SymbolicState) (s : State) → Takes r.gated r.program r.input s m.did.did → IsTrue r known s
       → m.calls ≡ calls_of (slice_get s.locals (thread_in m)) → m.bytes ≡ byte_at s.memory → AsksNothing r (seen_at r n m known) → P (seen_at r n m known)) →
       AllOf P (seen_in (reference_of r) every)
   each_step P f = along r o.can.program o.can.small P f (turns_of r) 0 0 (start_of r.program) (initial r.program) o.last r.steps o.run first_true asks_nothing

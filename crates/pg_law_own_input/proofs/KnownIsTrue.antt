@@ -11,10 +11,10 @@ use Rattle.pg_run_thread.specs.LocalState.{fresh}
 use Rattle.pg_run.specs.Runs.{Takes}
 use Rattle.pg_run.specs.State.{State}
 use Rattle.pg_slice_rules.specs.Freeable.{registers_by}
-use Rattle.pg_slice_rules.specs.Known.{RunShadow, Seen, Taken, seen_in, thread_of, top_of}
+use Rattle.pg_slice_rules.specs.Known.{SymbolicState, Seen, Taken, seen_in, thread_of, top_of}
 use Rattle.pg_slice_rules.specs.Moments.{Moment, calls_of, registers_in, thread_in}
 use Rattle.pg_slice_rules.specs.Rules.{registers_before}
-use Rattle.pg_slice_rules.specs.Shadows.{OnInput, Shadow, Known, unset}
+use Rattle.pg_slice_rules.specs.SymbolicValues.{OnInput, Symbolic, Known, unset}
 use Rattle.pg_law_least.specs.Keeps.{ExtentsKeep, every}
 use Rattle.pg_law_least.proofs.LikeValues.{Likes, likes_link}
 use Rattle.pg_law_least.proofs.AskedOfValues.{SeenLike}
@@ -39,7 +39,7 @@ unfolding fresh
 fresh_calls p t f = refl
 
 module _ (r : ReferenceRun) (o : IsMachineRun r) where
-  told : (n : ℕ) (m : Moment) (known : RunShadow) (s : State) → Takes r.gated r.program r.input s m.did.did → IsTrue r known s → m.calls ≡ calls_of (slice_get s.locals (thread_in m))
+  told : (n : ℕ) (m : Moment) (known : SymbolicState) (s : State) → Takes r.gated r.program r.input s m.did.did → IsTrue r known s → m.calls ≡ calls_of (slice_get s.locals (thread_in m))
       → m.bytes ≡ byte_at s.memory → AsksNothing r (seen_at r n m known) → IsTold r.input (seen_at r n m known)
   told n m known s h holds calls bytes asks = record {
     registers = go (begins r o.can.program o.can.small n m known s h holds calls bytes);
@@ -51,7 +51,7 @@ module _ (r : ReferenceRun) (o : IsMachineRun r) where
       go (inl b) = registers_alike r (seen_at r n m known) s (met r o.can.program o.can.small n m known s h holds calls bytes) (live r o.can.program o.can.small n m known s h holds calls bytes)
           (bytes_like r o.can.program o.can.small n m known s h holds calls bytes) b
       go (inr b) = subst (AreLike r.input (registers_before (seen_at r n m known))) (sym (ap registers_in (calls ∙ ap calls_of b.first) ∙ fresh_calls r.program (thread_in m) b.function))
-          (subst (λ (ks : List Shadow). AreLike r.input ks (replicate (Rattle.std.proofs.Common.length (types_of r.program b.function)) Rattle.std.proofs.Common.None))
+          (subst (λ (ks : List Symbolic). AreLike r.input ks (replicate (Rattle.std.proofs.Common.length (types_of r.program b.function)) Rattle.std.proofs.Common.None))
           (sym (ap top_of (holds.started.fresh_calls (thread_in m) b.function b.first))) (unset_like r.input (Rattle.std.proofs.Common.length (types_of r.program b.function))))
 
   all_told : AllOf (IsTold r.input) (seen_in (reference_of r) every)
@@ -59,10 +59,10 @@ module _ (r : ReferenceRun) (o : IsMachineRun r) where
 
 -- ---- under fewer decisions
 
-like_known : (input : List ℤ) (d : Taken) (s z : Shadow) (f g : OnInput) (v : Option ℕ) → s ≡ Known f g → Likes every s z → IsLike input z v → f input ≡ v
+like_known : (input : List ℤ) (d : Taken) (s z : Symbolic) (f g : OnInput) (v : Option ℕ) → s ≡ Known f g → Likes every s z → IsLike input z v → f input ≡ v
 like_known input d s z f g v e h k =
-    let q : z ≡ Known f g = subst (λ (a : Shadow). Likes every a z) e h in
-    sym (subst (λ (a : Shadow). IsLike input a v) q k).0
+    let q : z ≡ Known f g = subst (λ (a : Symbolic). Likes every a z) e h in
+    sym (subst (λ (a : Symbolic). IsLike input a v) q k).0
 
 module _ (r : ReferenceRun) (d : Taken) where
   one_true : (x y : Seen) → SeenLike (Likes every) x y → IsTold r.input y → IsTrueOn r.input x

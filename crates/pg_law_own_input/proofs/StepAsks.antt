@@ -23,7 +23,7 @@ use Rattle.pg_slice_rules.specs.Known.{Seen, is_branch, region_of, thread_of}
 use Rattle.pg_slice_rules.specs.Moments.{calls_of, instr_in, registers_in, thread_in}
 use Rattle.pg_slice_rules.specs.Rules.{Need, access_needs_by, access_needs_in, asks_bounds, asks_values, bounds_needs, is_bound, kind_in, region_needs_in, registers_before, value_needs}
 use Rattle.pg_slice_rules.specs.Rules.{value_needs_by, value_needs_in}
-use Rattle.pg_slice_rules.specs.Shadows.{Shadow}
+use Rattle.pg_slice_rules.specs.SymbolicValues.{Symbolic}
 use Rattle.pg_law_least.specs.Keeps.{every}
 use Rattle.pg_law_plan.specs.Likes.{AreLike, IsLike}
 use Rattle.pg_law_plan.specs.Units.{ReferenceRun, reference_of}
@@ -71,7 +71,7 @@ module _ (r : ReferenceRun) (x : Seen) (s : State) (met : IsMet r every x s) (li
     can = subst CanStep next_at (can_step r.gated r.program r.input s x.moment.did.did met.takes)
 
     alike : AreLike r.input (registers_before x) b.f.registers
-    alike = subst (λ (ks : List Shadow). AreLike r.input ks b.f.registers) (sym (top_known r every r.input x s s met b)) b.top.registers
+    alike = subst (λ (ks : List Symbolic). AreLike r.input ks b.f.registers) (sym (top_known r every r.input x s s met b)) b.top.registers
 
     registers_are : registers_in x.moment.calls ≡ b.f.registers
     registers_are = ap registers_in (met.calls ∙ ap calls_of b.here.local)

@@ -32,7 +32,7 @@ use Rattle.pg_slice_rules.specs.Known.{Taken, operand_at}
 use Rattle.pg_slice_rules.specs.Moments.{thread_in}
 use Rattle.pg_slice_rules.specs.Rules.{Footprint, Need, Value as ValueNeed, Bounds as BoundsNeed, access_needs_by, access_needs_in, address_index, kind_in, operand_of, same_bounds}
 use Rattle.pg_slice_rules.specs.Rules.{value_needs}
-use Rattle.pg_slice_rules.specs.Shadows.{OnInput, Shadow, Known, Bounded, Unknown, cut, bounds_word, joined, loaded, shadow_of, valued}
+use Rattle.pg_slice_rules.specs.SymbolicValues.{OnInput, Symbolic, Known, Bounded, Unknown, cut, bounds_word, joined, loaded, symbolic_of, valued}
 use Rattle.pg_law_plan.specs.Likes.{HaveSameBounds, HasBoundsOf, IsLike, IsToldLike}
 use Rattle.pg_law_plan.specs.Units.{PlanUnit, ReferenceRun, access_touch, instance_touch, is_event_at, is_read_in, is_written_in, range_touched, reads_cell, reference_of, touch_of, word_read}
 use Rattle.pg_law_plan.specs.Units.{word_written, writes_cell}
@@ -63,7 +63,7 @@ met_bounds word (Some n) h =
     let p = and_parts ((pointer_of n).start == (pointer_of word).start) ((pointer_of n).length == (pointer_of word).length) h in
     (n, refl, record { start = eqb-true (pointer_of n).start (pointer_of word).start p.0; length = eqb-true (pointer_of n).length (pointer_of word).length p.1 })
 
-pub bounded_same : (input : List ℤ) (s : Shadow) (f : OnInput) (word0 word : ℕ) → bounds_word s ≡ Some f → IsLike input s (Some word) → is_met (same_bounds word0) (f input) ≡ true
+pub bounded_same : (input : List ℤ) (s : Symbolic) (f : OnInput) (word0 word : ℕ) → bounds_word s ≡ Some f → IsLike input s (Some word) → is_met (same_bounds word0) (f input) ≡ true
     → HaveSameBounds word0 word
 bounded_same input (Known v g) f word0 word e h m =
     let same : g ≡ f = cc in
@@ -79,18 +79,18 @@ bounded_same input (Unknown x) f word0 word e h m = absurd cc
 
 -- ---- bytes
 
-pub cut_like : (input : List ℤ) (f : ℕ → ℕ) (s : Shadow) (n : ℕ) → IsLike input s (Some n) → IsLike input (cut f s) (Some (f n))
+pub cut_like : (input : List ℤ) (f : ℕ → ℕ) (s : Symbolic) (n : ℕ) → IsLike input s (Some n) → IsLike input (cut f s) (Some (f n))
 cut_like input f (Known g u) n h = valued_like input (λ i. nodes.with_one (g i) (λ m. Some (f m))) (Some (f n)) (ap (λ (o : Option ℕ). nodes.with_one o (λ m. Some (f m))) h.0)
 cut_like input f (Bounded g x) n h = tt
 cut_like input f (Unknown x) n h = tt
 
-joined_like : (input : List ℤ) (low high : Shadow) (b n : ℕ) → IsLike input low (Some b) → IsLike input high (Some n) → IsLike input (joined low high) (Some (n * 2 ^ 8 + b))
+joined_like : (input : List ℤ) (low high : Symbolic) (b n : ℕ) → IsLike input low (Some b) → IsLike input high (Some n) → IsLike input (joined low high) (Some (n * 2 ^ 8 + b))
 joined_like input low high b n h k = from_like input (low ∷ high ∷ []) (Some b ∷ Some n ∷ [])
     (λ gs. valued (λ i. nodes.with_both (nodes.number_of (gs i) 0) (nodes.number_of (gs i) 1) (λ b n. Some (n * 2 ^ 8 + b)))) (Some (n * 2 ^ 8 + b)) (h, (k, tt))
     (λ gs e. valued_like input (λ i. nodes.with_both (nodes.number_of (gs i) 0) (nodes.number_of (gs i) 1) (λ b n. Some (n * 2 ^ 8 + b))) (Some (n * 2 ^ 8 + b))
     (ap (λ (l : List (Option ℕ)). nodes.with_both (nodes.number_of l 0) (nodes.number_of l 1) (λ b n. Some (n * 2 ^ 8 + b))) (sym e)))
 
-pub loaded_like : (input : List ℤ) (bytes : ℕ → Shadow) (m : ℕ → ℕ) (at n : ℕ)
+pub loaded_like : (input : List ℤ) (bytes : ℕ → Symbolic) (m : ℕ → ℕ) (at n : ℕ)
     → ((c : ℕ) → is_in (record { start = at; bytes = n }) c ≡ true → IsLike input (bytes c) (Some (m c))) → IsLike input (loaded bytes at n) (Some (number_of m at n))
 unfolding number_of
 loaded_like input bytes m at zero h = valued_like input (λ i. Some 0) (Some 0) refl
@@ -142,15 +142,15 @@ module _ (r : ReferenceRun) (d : Taken) (input : List ℤ) (u : PlanUnit) (st : 
 
     address_like : IsLike input (operand_of r.program u.seen q.both.x (address_index q.both.x.op)) (Some a.word)
     address_like = subst (λ (o : Option ℕ). IsLike input (operand_of r.program u.seen q.both.x (address_index q.both.x.op)) o) a.address
-        (subst (λ (s : Shadow). IsLike input s (operand r.program q.both.f.registers a.at))
+        (subst (λ (s : Symbolic). IsLike input s (operand r.program q.both.f.registers a.at))
         (at_known (operands_of q.both.x.op) (address_index q.both.x.op) a.at a.index
-        ∙ ap (λ (ss : List Shadow). operand_at r.program ss q.both.x.op (address_index q.both.x.op)) (sym (top_known r d input u st moves y q)))
+        ∙ ap (λ (ss : List Symbolic). operand_at r.program ss q.both.x.op (address_index q.both.x.op)) (sym (top_known r d input u st moves y q)))
         (operand_like input r.program q.both.ks q.both.f.registers q.both.top.registers a.at))
       where
         at_known : (vs : List Value) (i : ℕ) (v : Value) → slice_get vs i ≡ Some v
-            → shadow_of r.program q.both.ks v ≡ Rattle.std.specs.Prelude.slice_index_or (map (shadow_of r.program q.both.ks) vs) i Rattle.pg_slice_rules.specs.Shadows.unset
+            → symbolic_of r.program q.both.ks v ≡ Rattle.std.specs.Prelude.slice_index_or (map (symbolic_of r.program q.both.ks) vs) i Rattle.pg_slice_rules.specs.SymbolicValues.unset
         at_known [] i v g = absurd cc
-        at_known (w ∷ vs) zero v g = let same : v ≡ w = cc in ap (shadow_of r.program q.both.ks) same
+        at_known (w ∷ vs) zero v g = let same : v ≡ w = cc in ap (symbolic_of r.program q.both.ks) same
         at_known (w ∷ vs) (suc i) v g = at_known vs i v g
 
     -- the address has the recorded bounds

@@ -15,7 +15,7 @@ use Rattle.pg_run.proofs.StepsBegin.{next_is, ready_made}
 use Rattle.pg_law_effects.specs.Reached.{IsReached, IsThread}
 use Rattle.pg_law_effects.specs.Views.{begun_in, local_at}
 use Rattle.pg_law_effects.proofs.ReachedStates.{present}
-use Rattle.pg_slice_rules.specs.Shadows.{Shadow}
+use Rattle.pg_slice_rules.specs.SymbolicValues.{Symbolic}
 use Rattle.pg_law_plan.specs.Likes.{AreCallsLike, IsCallLike, IsStandingLike, StandLike}
 use Rattle.pg_law_plan.specs.Units.{standing_of}
 use Rattle.pg_law_plan.proofs.ThreadAtInstruction.{Here, can_step, running}
@@ -30,7 +30,7 @@ same_running : (t : ℕ) (h h' : Bool) (f : Frame) (fs : List Frame) (n n' : ℕ
 same_running t h h' f fs n n' a b = ap (λ (u : Bool). running t u f fs n) a ∙ ap (λ (u : ℕ). running t h' f fs u) b
 
 -- both at an instruction
-pub record Both (p : NumberedProgram) (input : List ℤ) (t : ℕ) (s0 s : State) (known : List (List Shadow)) : Type 0 where
+pub record Both (p : NumberedProgram) (input : List ℤ) (t : ℕ) (s0 s : State) (known : List (List Symbolic)) : Type 0 where
   pub h : Bool
   pub f0 : Frame
   pub fs0 : List Frame
@@ -38,8 +38,8 @@ pub record Both (p : NumberedProgram) (input : List ℤ) (t : ℕ) (s0 s : State
   pub x : Instr
   pub f : Frame
   pub fs : List Frame
-  pub ks : List Shadow
-  pub more : List (List Shadow)
+  pub ks : List Symbolic
+  pub more : List (List Symbolic)
   pub here0 : Here p s0 t h f0 fs0 n x
   pub here : Here p s t h f fs n x
   pub calls : known ≡ ks ∷ more
@@ -52,11 +52,11 @@ pub record Beginning (p : NumberedProgram) (t : ℕ) (s0 s : State) : Type 0 whe
   pub first : slice_get s0.locals t ≡ Some (fresh p t function)
   pub none : local_at s t ≡ None
 
-pub record Parts (input : List ℤ) (fs0 : List Frame) (known : List (List Shadow)) (gs : List Frame) : Type 0 where
+pub record Parts (input : List ℤ) (fs0 : List Frame) (known : List (List Symbolic)) (gs : List Frame) : Type 0 where
   pub f0 : Frame
   pub more0 : List Frame
-  pub ks : List Shadow
-  pub more : List (List Shadow)
+  pub ks : List Symbolic
+  pub more : List (List Symbolic)
   pub f : Frame
   pub fs : List Frame
   pub is0 : fs0 ≡ f0 ∷ more0
@@ -65,13 +65,13 @@ pub record Parts (input : List ℤ) (fs0 : List Frame) (known : List (List Shado
   pub top : IsCallLike input f0 ks f
   pub rest : AreCallsLike input more0 more fs
 
-pub parts : (input : List ℤ) (fs0 : List Frame) (known : List (List Shadow)) (gs : List Frame) → AreCallsLike input fs0 known gs → (fs0 ≡ []) ⊎ Parts input fs0 known gs
+pub parts : (input : List ℤ) (fs0 : List Frame) (known : List (List Symbolic)) (gs : List Frame) → AreCallsLike input fs0 known gs → (fs0 ≡ []) ⊎ Parts input fs0 known gs
 parts input [] known gs h = inl refl
 parts input (f ∷ fs0) [] gs h = absurd h
 parts input (f ∷ fs0) (k ∷ known) [] h = absurd h
 parts input (f ∷ fs0) (k ∷ known) (g ∷ gs) h = inr (record { f0 = f; more0 = fs0; ks = k; more = known; f = g; fs = gs; is0 = refl; is_known = refl; is = refl; top = h.0; rest = h.1 })
 
-module _ (gated : List InstrId) (p : NumberedProgram) (input0 input : List ℤ) (s0 s : State) (x0 : Step) (known : List (List Shadow)) (reached0 : IsReached p s0)
+module _ (gated : List InstrId) (p : NumberedProgram) (input0 input : List ℤ) (s0 s : State) (x0 : Step) (known : List (List Symbolic)) (reached0 : IsReached p s0)
     (takes0 : Takes gated p input0 s0 x0) (reached : IsReached p s) where
   abbrev t : ℕ
   t = x0.thread.0

@@ -8,7 +8,7 @@ use Rattle.pg_run_trace.specs.declared.step.Step.{Step}
 use Rattle.pg_run_trace.specs.Races.{recorded}
 use Rattle.pg_run.specs.State.{State, initial}
 use Rattle.pg_law_effects.specs.PermittedSteps.{none_taken, one_more}
-use Rattle.pg_slice_rules.specs.Known.{RunShadow, Taken, seen_from, start_of}
+use Rattle.pg_slice_rules.specs.Known.{SymbolicState, Taken, seen_from, start_of}
 use Rattle.pg_slice_rules.specs.Moments.{moments_from, thread_in}
 use Rattle.pg_law_plan.specs.Units.{ExtentsArePlain, Met, ReferenceRun, behind, deed_of, is_event_at, last_from, met_in, met_with, plan_of, reference_of, states_from, turns_of, unit_of, units_from}
 use Rattle.pg_law_plan.proofs.UnitTurns.{AreTimed, all_timed, deed_event}
@@ -36,7 +36,7 @@ module _ (r : ReferenceRun) (d : Taken) where
           (deed_event r d (unit_of r d last counts m ms)) ∙ more (one_more (thread_in m.seen.moment) counts)
       go false e more = ap (λ (b : Bool). turns_done deeds (done_after b k) (map (deed_of d) (units_from r d last counts ms))) (sym (h.0.plain e)) ∙ more counts
 
-  step_turns : (T : List ℕ) (k j n : ℕ) (known : RunShadow) (s : State) (xs : List Step)
+  step_turns : (T : List ℕ) (k j n : ℕ) (known : SymbolicState) (s : State) (xs : List Step)
       → met_turns k (met_with (seen_from (reference_of r) d n known (moments_from r.gated r.program r.input s (times recorded T j xs))) (states_from r s xs)) ≡ turns_done recorded k xs
   unfolding seen_from moments_from states_from
   step_turns T k j n known s [] = refl

@@ -34,10 +34,10 @@ use Rattle.pg_run_trace.specs.declared.step.StepKind.TheVariants as kinds
 use Rattle.pg_run.specs.MachineStep.{op_told}
 use Rattle.pg_run.specs.State.{State}
 use Rattle.pg_law_effects.specs.Effect.{answer_to}
-use Rattle.pg_slice_rules.specs.Known.{Taken, from_input, operand_at, result_in, set_shadow}
+use Rattle.pg_slice_rules.specs.Known.{Taken, from_input, operand_at, result_in, set_symbolic}
 use Rattle.pg_slice_rules.specs.Moments.{thread_in}
 use Rattle.pg_slice_rules.specs.Rules.{Value as ValueNeed, is_malloc, kind_in, operand_of, value_needs, value_of}
-use Rattle.pg_slice_rules.specs.Shadows.{OnInput, Shadow, always, valued}
+use Rattle.pg_slice_rules.specs.SymbolicValues.{OnInput, Symbolic, always, valued}
 use Rattle.pg_law_plan.specs.Likes.{AreLike, IsLike, like}
 use Rattle.pg_law_plan.specs.Moves.{deed_moved}
 use Rattle.pg_law_plan.specs.Units.{PlanUnit, ReferenceRun, deed_of, reference_of}
@@ -56,8 +56,8 @@ room_done true h = refl
 room_done false h = absurd h
 
 -- a register, if there is one, gets the number that is told
-pub told_number : (input : List ℤ) (target : Option ℕ) (ks : List Shadow) (vs : List (Option ℕ)) (number n : ℕ) → AreLike input ks vs → number ≡ n
-    → AreLike input (set_shadow target (always (or_zero target number)) ks) (set_register vs target (Some n))
+pub told_number : (input : List ℤ) (target : Option ℕ) (ks : List Symbolic) (vs : List (Option ℕ)) (number n : ℕ) → AreLike input ks vs → number ≡ n
+    → AreLike input (set_symbolic target (always (or_zero target number)) ks) (set_register vs target (Some n))
 told_number input None ks vs number n h e = h
 told_number input (Some t) ks vs number n h e = set_like input (Some t) ks vs (always number) (Some n) h (valued_like input (λ i. Some number) (Some n) (ap Some (sym e)))
 
@@ -71,7 +71,7 @@ input_small input (pos i) = small (slice_get input i)
     small (Some n) = residue_small W64 n
 input_small input (negsuc i) = Rattle.std.proofs.Common.lit< tt
 
-input_like : (input : List ℤ) (s : Shadow) (n : ℕ) → IsLike input s (Some n) → IsLike input (from_input s) (Some (input_at input (signed W64 n) % modulus W64))
+input_like : (input : List ℤ) (s : Symbolic) (n : ℕ) → IsLike input s (Some n) → IsLike input (from_input s) (Some (input_at input (signed W64 n) % modulus W64))
 input_like input s n h = from_like input (s ∷ []) (Some n ∷ []) (λ gs. valued (λ i. nodes.with_one (slice_index_or (gs i) 0 None) (λ k. Some (input_at i (signed W64 k)))))
     (Some (input_at input (signed W64 n) % modulus W64)) (h, tt)
     (λ gs e. valued_like input (λ i. nodes.with_one (slice_index_or (gs i) 0 None) (λ k. Some (input_at i (signed W64 k)))) (Some (input_at input (signed W64 n) % modulus W64))
@@ -105,7 +105,7 @@ module _ (r : ReferenceRun) (d : Taken) (input : List ℤ) (program : IsProgram 
           function = b.top.function;
           place = ap (λ (i : ℕ). i + 1) b.top.place;
           height = ap (λ (i : ℕ). i + granules_for bytes) b.top.height;
-          registers = subst (λ (k : StepKind). AreLike input (set_shadow b.x.result (always (result_in k)) b.ks) (set_register b.f.registers b.x.result (Some (pushed r1 bytes)))) (sym kind)
+          registers = subst (λ (k : StepKind). AreLike input (set_symbolic b.x.result (always (result_in k)) b.ks) (set_register b.f.registers b.x.result (Some (pushed r1 bytes)))) (sym kind)
               (told_number input b.x.result b.ks b.f.registers (pushed r0 bytes) (pushed r1 bytes) b.top.registers (ap (λ (z : ThreadMemory). pushed z bytes) (sym same_region)));
         },
         b.rest,
@@ -204,7 +204,7 @@ module _ (r : ReferenceRun) (d : Taken) (input : List ℤ) (program : IsProgram 
           function = b.top.function;
           place = ap (λ (i : ℕ). i + 1) b.top.place;
           height = b.top.height;
-          registers = subst (λ (k : StepKind). AreLike input (set_shadow b.x.result (always (result_in k)) b.ks)
+          registers = subst (λ (k : StepKind). AreLike input (set_symbolic b.x.result (always (result_in k)) b.ks)
               (set_register b.f.registers b.x.result (Some (allocated r1 (given (argument p b.f.registers args 0)))))) (sym kind)
               (told_number input b.x.result b.ks b.f.registers (allocated r0 n0) (allocated r1 (given (argument p b.f.registers args 0))) b.top.registers
               (ap (λ (z : ThreadMemory). allocated z n0) (sym same_region) ∙ ap (allocated r1) (sym number)));

@@ -28,7 +28,7 @@ use Rattle.pg_law_effects.specs.Effect.{answer_to}
 use Rattle.pg_slice_rules.specs.Known.{Taken, operand_at, thread_of}
 use Rattle.pg_slice_rules.specs.Moments.{thread_in}
 use Rattle.pg_slice_rules.specs.Rules.{checked, checked_of, equal_to, kind_in, operand_of, registers_before, value_needs, value_needs_by, value_needs_in, value_of}
-use Rattle.pg_slice_rules.specs.Shadows.{OnInput, Shadow, shadow_of, unset}
+use Rattle.pg_slice_rules.specs.SymbolicValues.{OnInput, Symbolic, symbolic_of, unset}
 use Rattle.pg_law_plan.specs.Likes.{IsLike}
 use Rattle.pg_law_plan.specs.Units.{PlanUnit, ReferenceRun, reference_of}
 use Rattle.pg_law_plan.proofs.EachUnit.{IsUnit}
@@ -126,11 +126,11 @@ module _ (r : ReferenceRun) (d : Taken) (input : List ℤ) (u : PlanUnit) (st : 
       one : (i : ℕ) → nat_lt i 3 ≡ true → (n : ℕ) → argument r.program b.f0.registers args i ≡ Some n → (f : OnInput) → value_of (operand_of r.program u.seen b.x i) ≡ Some f
           → is_met (test.Eq (slice_index numbers0 i)) (f input) ≡ true → argument r.program b.f.registers args i ≡ argument r.program b.f0.registers args i
       one i s n g f k m =
-          let shadow : slice_index_or (map (shadow_of r.program b.ks) args) i unset ≡ operand_of r.program u.seen b.x i =
-          ap (λ (ss : List Shadow). operand_at r.program ss (op.CallLibrary known.PgIn args) i) (sym (meeting.top_known r d input u.seen u.state st unit.met b))
-          ∙ sym (ap (λ (z : Op). slice_index_or (map (shadow_of r.program (registers_before u.seen)) (operands_of z)) i unset) e) in
+          let symbolic : slice_index_or (map (symbolic_of r.program b.ks) args) i unset ≡ operand_of r.program u.seen b.x i =
+          ap (λ (ss : List Symbolic). operand_at r.program ss (op.CallLibrary known.PgIn args) i) (sym (meeting.top_known r d input u.seen u.state st unit.met b))
+          ∙ sym (ap (λ (z : Op). slice_index_or (map (symbolic_of r.program (registers_before u.seen)) (operands_of z)) i unset) e) in
           let v : argument r.program b.f.registers args i ≡ f input = like_value input (operand_of r.program u.seen b.x i) f (argument r.program b.f.registers args i) k
-          (subst (λ (z : Shadow). IsLike input z (argument r.program b.f.registers args i)) shadow (argument_like input r.program b.ks b.f.registers b.top.registers args i)) in
+          (subst (λ (z : Symbolic). IsLike input z (argument r.program b.f.registers args i)) symbolic (argument_like input r.program b.ks b.f.registers b.top.registers args i)) in
           v ∙ met (f input) m ∙ sym g
         where
           met : (o : Option ℕ) → is_met (test.Eq (slice_index numbers0 i)) o ≡ true → o ≡ Some n

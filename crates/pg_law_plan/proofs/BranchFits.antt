@@ -34,7 +34,7 @@ use Rattle.pg_slice_rules.specs.Extents.{edge_by, edge_in}
 use Rattle.pg_slice_rules.specs.Known.{Taken, after_branch, after_op, along_edge, is_branch, operand_at, region_of, result_in, top_of}
 use Rattle.pg_slice_rules.specs.Moments.{calls_of, instr_in, registers_in, thread_in}
 use Rattle.pg_slice_rules.specs.Rules.{Value as ValueNeed, edge_tests, has_region, is_bound, is_case, kind_in, operand_of, registers_before, value_needs, value_needs_by, value_needs_in, value_of}
-use Rattle.pg_slice_rules.specs.Shadows.{OnInput, Shadow}
+use Rattle.pg_slice_rules.specs.SymbolicValues.{OnInput, Symbolic}
 use Rattle.pg_law_plan.specs.Likes.{AreCallsLike, IsCallLike, IsLike, like}
 use Rattle.pg_law_plan.specs.Moves.{deed_moved}
 use Rattle.pg_law_plan.specs.Units.{PlanUnit, ReferenceRun, deed_of, reference_of}
@@ -82,7 +82,7 @@ switch_same w on other cs n k h = go (is_case n cs) refl h
 
 -- ---- frames
 
-frame_moved : (input : List ℤ) (p : NumberedProgram) (f0 f : Frame) (ks : List Shadow) (from to0 to : ℕ) → IsCallLike input f0 ks f → to ≡ to0
+frame_moved : (input : List ℤ) (p : NumberedProgram) (f0 f : Frame) (ks : List Symbolic) (from to0 to : ℕ) → IsCallLike input f0 ks f → to ≡ to0
     → IsCallLike input (moved p f0 from to0) (along_edge p from (Some to0) ks) (moved p f from to)
 frame_moved input p f0 f ks from to0 to h e = subst (λ (z : ℕ). IsCallLike input (moved p f0 from to0) (along_edge p from (Some to0) ks) (moved p f from z)) (sym e) (record {
   function = h.function;
@@ -162,15 +162,15 @@ module _ (r : ReferenceRun) (d : Taken) (input : List ℤ) (u : PlanUnit) (st : 
       → value_of (operand_of r.program u.seen q.both.x i) ≡ Some f → operand r.program q.both.f.registers v ≡ f input
   number_known o e i v g f k =
       like_value input (operand_of r.program u.seen q.both.x i) f (operand r.program q.both.f.registers v) k
-      (subst (λ (s : Shadow). IsLike input s (operand r.program q.both.f.registers v))
-      (at_known (operands_of o) i v g ∙ ap (λ (ss : List Shadow). operand_at r.program ss o i) (sym top_known) ∙ ap (λ (z : Op). operand_at r.program (registers_before u.seen) z i) (sym e))
+      (subst (λ (s : Symbolic). IsLike input s (operand r.program q.both.f.registers v))
+      (at_known (operands_of o) i v g ∙ ap (λ (ss : List Symbolic). operand_at r.program ss o i) (sym top_known) ∙ ap (λ (z : Op). operand_at r.program (registers_before u.seen) z i) (sym e))
       (operand_like input r.program q.both.ks q.both.f.registers q.both.top.registers v))
     where
       at_known : (vs : List Value) (i : ℕ) (v : Value) → slice_get vs i ≡ Some v
-          → Rattle.pg_slice_rules.specs.Shadows.shadow_of r.program q.both.ks v
-          ≡ Rattle.std.specs.Prelude.slice_index_or (map (Rattle.pg_slice_rules.specs.Shadows.shadow_of r.program q.both.ks) vs) i Rattle.pg_slice_rules.specs.Shadows.unset
+          → Rattle.pg_slice_rules.specs.SymbolicValues.symbolic_of r.program q.both.ks v
+          ≡ Rattle.std.specs.Prelude.slice_index_or (map (Rattle.pg_slice_rules.specs.SymbolicValues.symbolic_of r.program q.both.ks) vs) i Rattle.pg_slice_rules.specs.SymbolicValues.unset
       at_known [] i v g = absurd cc
-      at_known (w ∷ vs) Rattle.std.proofs.Common.zero v g = let same : v ≡ w = cc in ap (Rattle.pg_slice_rules.specs.Shadows.shadow_of r.program q.both.ks) same
+      at_known (w ∷ vs) Rattle.std.proofs.Common.zero v g = let same : v ≡ w = cc in ap (Rattle.pg_slice_rules.specs.SymbolicValues.symbolic_of r.program q.both.ks) same
       at_known (w ∷ vs) (Rattle.std.proofs.Common.suc i) v g = at_known vs i v g
 
   -- ---- a branch without a condition
@@ -231,7 +231,7 @@ module _ (r : ReferenceRun) (d : Taken) (input : List ℤ) (u : PlanUnit) (st : 
         let edge = edge_of o e c refl (given (operand p q.both.f0.registers c)) kind v.0 v.1 in
         let same : given (operand p q.both.f.registers c) ≡ given (operand p q.both.f0.registers c) = ap given v.1 ∙ eq_met (given (operand p q.both.f0.registers c)) v.0 edge.tests.0 in
         inner_at o e (subst IsInner (sym local0) tt) (subst IsInner (sym local) tt) refl (
-          subst (λ (z : List Shadow). IsCallLike input (moved p q.both.f0 q.both.x.block.0 (chosen (given (operand p q.both.f0.registers c)) a.0 b.0)) z
+          subst (λ (z : List Symbolic). IsCallLike input (moved p q.both.f0 q.both.x.block.0 (chosen (given (operand p q.both.f0.registers c)) a.0 b.0)) z
               (moved p q.both.f q.both.x.block.0 (chosen (given (operand p q.both.f.registers c)) a.0 b.0)))
               (sym (after_pinned edge.pinned (edge_in p u.seen.moment (Some q.both.x))
               ∙ ap (λ (g : Option ℕ). along_edge p q.both.x.block.0 g q.both.ks) (ap (edge_by p u.seen.moment) e ∙ ap (λ (n : ℕ). Some (chosen n a.0 b.0)) (condition o))))
@@ -270,7 +270,7 @@ module _ (r : ReferenceRun) (d : Taken) (input : List ℤ) (u : PlanUnit) (st : 
         let same : case_of cs other.0 (given (operand p q.both.f.registers on)) ≡ case_of cs other.0 (given (operand p q.both.f0.registers on)) =
         ap (λ (m : Option ℕ). case_of cs other.0 (given m)) v.1 ∙ switch_same w on other cs (given (operand p q.both.f0.registers on)) v.0 edge.tests in
         inner_at o e (subst IsInner (sym local0) tt) (subst IsInner (sym local) tt) refl (
-          subst (λ (z : List Shadow). IsCallLike input (moved p q.both.f0 q.both.x.block.0 (case_of cs other.0 (given (operand p q.both.f0.registers on)))) z
+          subst (λ (z : List Symbolic). IsCallLike input (moved p q.both.f0 q.both.x.block.0 (case_of cs other.0 (given (operand p q.both.f0.registers on)))) z
               (moved p q.both.f q.both.x.block.0 (case_of cs other.0 (given (operand p q.both.f.registers on)))))
               (sym (after_pinned edge.pinned (edge_in p u.seen.moment (Some q.both.x))
               ∙ ap (λ (g : Option ℕ). along_edge p q.both.x.block.0 g q.both.ks) (ap (edge_by p u.seen.moment) e ∙ ap (λ (n : ℕ). Some (case_of cs other.0 n)) (condition o))))

@@ -24,10 +24,10 @@ use Rattle.pg_run_trace.specs.declared.step.Step.{Step}
 use Rattle.pg_run.specs.State.{State}
 use Rattle.pg_run.proofs.StepsBegin.{there}
 use Rattle.pg_run.proofs.StepsKeepStates.{all_at}
-use Rattle.pg_slice_rules.specs.Known.{Taken, optional_shadow, set_shadow, target_of}
-use Rattle.pg_slice_rules.specs.Known as shadows
+use Rattle.pg_slice_rules.specs.Known.{Taken, optional_symbolic, set_symbolic, target_of}
+use Rattle.pg_slice_rules.specs.Known as symbolics
 use Rattle.pg_slice_rules.specs.Moments.{thread_in}
-use Rattle.pg_slice_rules.specs.Shadows.{Shadow, shadow_of, unset}
+use Rattle.pg_slice_rules.specs.SymbolicValues.{Symbolic, symbolic_of, unset}
 use Rattle.pg_law_plan.specs.Likes.{IsCallLike, IsLike, like}
 use Rattle.pg_law_plan.specs.Moves.{deed_moved}
 use Rattle.pg_law_plan.specs.Units.{PlanUnit, ReferenceRun, deed_of}
@@ -91,8 +91,8 @@ returns_nothing p types (Some s) h = absurd h
 module _ (r : ReferenceRun) (d : Taken) (input : List ℤ) (program : IsProgram r.program) (u : PlanUnit) (st : State) (moves : ℕ → ℕ) (y : Step) (q : Pair r d input u st moves y) where
   -- ---- a call
 
-  frame_entered : (g h0 h : ℕ) (ss : List Shadow) (vs ws : List (Option ℕ)) → h ≡ h0 → Rattle.pg_law_plan.specs.Likes.AreLike input ss vs
-      → IsCallLike input (entered r.program g h0 ws) (shadows.entered r.program g ss) (entered r.program g h vs)
+  frame_entered : (g h0 h : ℕ) (ss : List Symbolic) (vs ws : List (Option ℕ)) → h ≡ h0 → Rattle.pg_law_plan.specs.Likes.AreLike input ss vs
+      → IsCallLike input (entered r.program g h0 ws) (symbolics.entered r.program g ss) (entered r.program g h vs)
   unfolding entered
   frame_entered g h0 h ss vs ws e k = record { function = refl; place = refl; height = e; registers = entered_like input r.program g ss vs k }
 
@@ -106,7 +106,7 @@ module _ (r : ReferenceRun) (d : Taken) (input : List ℤ) (program : IsProgram 
       (subst IsInner (sym (act0_at r d input u st moves y q (op.Call g args) e ∙ a0.0 ∙ call_done p g (length (b.f0 ∷ b.fs0)) (total (b.f0 ∷ b.fs0)) a0.1)) tt)
       (subst IsInner (sym (act_at r d input u st moves y q (op.Call g args) e ∙ a.0 ∙ call_done p g (length (b.f ∷ b.fs)) (total (b.f ∷ b.fs)) a.1)) tt)
       refl (
-        frame_entered g b.f0.height b.f.height (map (shadow_of p b.ks) args) (map (operand p b.f.registers) args) (map (operand p b.f0.registers) args) b.top.height
+        frame_entered g b.f0.height b.f.height (map (symbolic_of p b.ks) args) (map (operand p b.f.registers) args) (map (operand p b.f0.registers) args) b.top.height
             (operands_like input p b.ks b.f.registers b.top.registers args),
         (b.top, b.rest),
       )
@@ -133,33 +133,33 @@ module _ (r : ReferenceRun) (d : Taken) (input : List ℤ) (program : IsProgram 
         caller_none p b.f.function g (slice_get p.instrs g.place) program refl w.1 (ap (result_of p) (sym own) ∙ void)
 
     -- the caller goes on
-    frame_returned : (g0 g : Frame) (gs : List Frame) (k2 : List Shadow) (n0 : ℕ) → q.both.fs ≡ g ∷ gs → IsCallLike input g0 k2 g →
-        IsCallLike input (stepped g0 (target_in (slice_get r.program.instrs g0.place)) n0) (set_shadow (target_of (slice_get r.program.instrs g0.place)) (optional_shadow r.program q.both.ks v) k2)
+    frame_returned : (g0 g : Frame) (gs : List Frame) (k2 : List Symbolic) (n0 : ℕ) → q.both.fs ≡ g ∷ gs → IsCallLike input g0 k2 g →
+        IsCallLike input (stepped g0 (target_in (slice_get r.program.instrs g0.place)) n0) (set_symbolic (target_of (slice_get r.program.instrs g0.place)) (optional_symbolic r.program q.both.ks v) k2)
         (stepped g (target_in (slice_get r.program.instrs g.place)) (number_at r.program q.both.f.registers (operands_of (op.Ret v)) 0))
     frame_returned g0 g gs k2 n0 is h =
         let p = r.program in
-        subst (λ (i : ℕ). IsCallLike input (stepped g0 (target_in (slice_get p.instrs g0.place)) n0) (set_shadow (target_of (slice_get p.instrs g0.place)) (optional_shadow p q.both.ks v) k2)
+        subst (λ (i : ℕ). IsCallLike input (stepped g0 (target_in (slice_get p.instrs g0.place)) n0) (set_symbolic (target_of (slice_get p.instrs g0.place)) (optional_symbolic p q.both.ks v) k2)
         (stepped g (target_in (slice_get p.instrs i)) (number_at p q.both.f.registers (operands_of (op.Ret v)) 0))) (sym h.place)
-        (subst (λ (o : Option ℕ). IsCallLike input (stepped g0 (target_in (slice_get p.instrs g0.place)) n0) (set_shadow o (optional_shadow p q.both.ks v) k2)
+        (subst (λ (o : Option ℕ). IsCallLike input (stepped g0 (target_in (slice_get p.instrs g0.place)) n0) (set_symbolic o (optional_symbolic p q.both.ks v) k2)
         (stepped g (target_in (slice_get p.instrs g0.place)) (number_at p q.both.f.registers (operands_of (op.Ret v)) 0))) (sym (same (slice_get p.instrs g0.place))) (go v refl))
       where
         same : (o : Option Instr) → target_of o ≡ target_in o
         same None = refl
         same (Some x) = refl
 
-        none_set : (target : Option ℕ) (n : ℕ) → target ≡ None → IsCallLike input (stepped g0 target n0) (set_shadow target unset k2) (stepped g target n)
+        none_set : (target : Option ℕ) (n : ℕ) → target ≡ None → IsCallLike input (stepped g0 target n0) (set_symbolic target unset k2) (stepped g target n)
         none_set target n k = rw k (record { function = h.function; place = ap (λ (i : ℕ). i + 1) h.place; height = h.height; registers = h.registers })
 
         go : (w : Option Value) → v ≡ w → IsCallLike input (stepped g0 (target_in (slice_get r.program.instrs g0.place)) n0)
-            (set_shadow (target_in (slice_get r.program.instrs g0.place)) (optional_shadow r.program q.both.ks w) k2)
+            (set_symbolic (target_in (slice_get r.program.instrs g0.place)) (optional_symbolic r.program q.both.ks w) k2)
             (stepped g (target_in (slice_get r.program.instrs g0.place)) (number_at r.program q.both.f.registers (operands_of (op.Ret w)) 0))
         go None k = none_set (target_in (slice_get r.program.instrs g0.place)) _ (ap (λ (i : ℕ). target_in (slice_get r.program.instrs i)) (sym h.place) ∙ waits g gs is k)
         go (Some w) k =
             let c : CanStep (returning_action r.program q.both.f.registers (length (q.both.f ∷ q.both.fs)) (Some w)) =
             subst (λ (z : Option Value). CanStep (returning_action r.program q.both.f.registers (length (q.both.f ∷ q.both.fs)) z)) k (can_at r d input u st moves y q (op.Ret v) e) in
             let n = value_done (operand r.program q.both.f.registers w) (λ n. return_action (length (q.both.f ∷ q.both.fs)) n) c in
-            frame_stepped input g0 g k2 (target_in (slice_get r.program.instrs g0.place)) (shadow_of r.program q.both.ks w) n0 (given (operand r.program q.both.f.registers w)) h
-            (subst (λ (o : Option ℕ). IsLike input (shadow_of r.program q.both.ks w) o) (n.1 ∙ ap Some (sym (ap given n.1)))
+            frame_stepped input g0 g k2 (target_in (slice_get r.program.instrs g0.place)) (symbolic_of r.program q.both.ks w) n0 (given (operand r.program q.both.f.registers w)) h
+            (subst (λ (o : Option ℕ). IsLike input (symbolic_of r.program q.both.ks w) o) (n.1 ∙ ap Some (sym (ap given n.1)))
             (operand_like input r.program q.both.ks q.both.f.registers q.both.top.registers w))
 
     pub ret_fits : Fits (like input) (deed_of d u) (deed_moved r.program input st moves y)

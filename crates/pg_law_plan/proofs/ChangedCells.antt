@@ -37,10 +37,10 @@ use Rattle.pg_law_effects.specs.Views.{is_thread}
 use Rattle.pg_slice_rules.specs.declared.decision.Decision.TheVariants.{Exact}
 use Rattle.pg_slice_rules.specs.Extents.{is_live}
 use Rattle.pg_slice_rules.specs.Freeable.{FreeRegion, bounds_of}
-use Rattle.pg_slice_rules.specs.Known.{Reference, RunShadow, Taken, after_step, bytes_by, bytes_freed, bytes_stored, live_after, live_by, region_of, thread_of, words_after}
+use Rattle.pg_slice_rules.specs.Known.{Reference, SymbolicState, Taken, after_step, bytes_by, bytes_freed, bytes_stored, live_after, live_by, region_of, thread_of, words_after}
 use Rattle.pg_slice_rules.specs.Moments.{Moment, instr_in, thread_in}
 use Rattle.pg_slice_rules.specs.Rules.{has_region}
-use Rattle.pg_slice_rules.specs.Shadows.{Shadow, always, spoiled, stored}
+use Rattle.pg_slice_rules.specs.SymbolicValues.{Symbolic, always, spoiled, stored}
 use Rattle.pg_law_plan.specs.Units.{access_touch, cell_known, event_word_written, is_written_in, range_touched, word_written}
 use Rattle.pg_law_plan.proofs.ThreadAtInstruction.{told_is}
 use Rattle.pg_law_plan.proofs.LocalStepFits.{kind_inner}
@@ -56,14 +56,14 @@ no_or false h = refl
 
 -- ---- words
 
-word_other : (xs : List Shadow) (t i : ℕ) (x z : Shadow) → (t ≡ i → ⊥) → slice_index_or (slice_set xs t x) i z ≡ slice_index_or xs i z
+word_other : (xs : List Symbolic) (t i : ℕ) (x z : Symbolic) → (t ≡ i → ⊥) → slice_index_or (slice_set xs t x) i z ≡ slice_index_or xs i z
 word_other [] t i x z h = refl
 word_other (y ∷ xs) zero zero x z h = absurd (h refl)
 word_other (y ∷ xs) zero (suc i) x z h = refl
 word_other (y ∷ xs) (suc t) zero x z h = refl
 word_other (y ∷ xs) (suc t) (suc i) x z h = word_other xs t i x z (λ e. h (ap suc e))
 
-word_older : (xs : List Shadow) (i : ℕ) (x z : Shadow) → (length xs ≡ i → ⊥) → slice_index_or (xs ++ x ∷ []) i z ≡ slice_index_or xs i z
+word_older : (xs : List Symbolic) (i : ℕ) (x z : Symbolic) → (length xs ≡ i → ⊥) → slice_index_or (xs ++ x ∷ []) i z ≡ slice_index_or xs i z
 word_older [] zero x z h = absurd (h refl)
 word_older [] (suc i) x z h = refl
 word_older (y ∷ xs) zero x z h = refl
@@ -157,12 +157,12 @@ told_counted gated p s t ns a n action = tt
 
 -- ---- what a step changes
 
-module _ (p : NumberedProgram) (d : Taken) (n : ℕ) (m : Moment) (region : Option FreeRegion) (s : RunShadow) where
+module _ (p : NumberedProgram) (d : Taken) (n : ℕ) (m : Moment) (region : Option FreeRegion) (s : SymbolicState) where
   -- a single step of this kind may write this cell
   abbrev pub may_write : StepKind → ℕ → Bool
   may_write k c = if nat_lt c MEMORY_BYTES then list_any (λ f. is_written_in f c) (access_touch d n (access_in k) ++ []) else is_thread (word_written (thread_in m) k) (c - MEMORY_BYTES)
 
-  store_bytes : (a : Access) (c : ℕ) (x y w : Bool) (sh : Shadow) (bytes : ℕ → Shadow) → ((w && is_in (range_touched (y || x) a) c) || false) ≡ false → w ≡ true
+  store_bytes : (a : Access) (c : ℕ) (x y w : Bool) (sh : Symbolic) (bytes : ℕ → Symbolic) → ((w && is_in (range_touched (y || x) a) c) || false) ≡ false → w ≡ true
       → (if x || y then stored (range_of a) sh bytes else spoiled (bounds_of a.pointer) (Exact n) bytes) c ≡ bytes c
   store_bytes a c x y false sh bytes h e = absurd (true≢false (sym e))
   store_bytes a c true true true sh bytes h e = outside (is_in (range_of a) c) _ _ (no_or (is_in (range_of a) c) h)
@@ -170,29 +170,29 @@ module _ (p : NumberedProgram) (d : Taken) (n : ℕ) (m : Moment) (region : Opti
   store_bytes a c false true true sh bytes h e = outside (is_in (range_of a) c) _ _ (no_or (is_in (range_of a) c) h)
   store_bytes a c false false true sh bytes h e = outside (is_in (bounds_of a.pointer) c) _ _ (no_or (is_in (bounds_of a.pointer) c) h)
 
-  access_bytes : (a : Access) (c : ℕ) (rs : List Shadow) (o : Op) (bytes : ℕ → Shadow) → IsStoreWriting o a
+  access_bytes : (a : Access) (c : ℕ) (rs : List Symbolic) (o : Op) (bytes : ℕ → Symbolic) → IsStoreWriting o a
       → list_any (λ f. is_written_in f c) (access_touch d n (Some a) ++ []) ≡ false → bytes_stored p (d.exact n || a.event) n a rs o bytes c ≡ bytes c
   access_bytes a c rs (op.Store w v at) bytes e h = store_bytes a c (d.exact n) a.event a.writes _ bytes h e
   access_bytes a c rs o bytes e h = refl
 
-  event_bytes : (e : Event) (c : ℕ) (w : Option Write) (words : List Shadow) (bytes : ℕ → Shadow) → list_any (λ f. is_written_in f c) (access_touch d n (access_by w) ++ []) ≡ false
+  event_bytes : (e : Event) (c : ℕ) (w : Option Write) (words : List Symbolic) (bytes : ℕ → Symbolic) → list_any (λ f. is_written_in f c) (access_touch d n (access_by w) ++ []) ≡ false
       → bytes_by e w words bytes c ≡ bytes c
   event_bytes e c None words bytes h = refl
   event_bytes e c (Some w) words bytes h = outside (is_in (range_of (write_by w)) c) _ _ (no_or (is_in (range_of (write_by w)) c) h)
 
-  event_words : (e : Event) (i : ℕ) (k : TurnKind) (rs : List Shadow) (o : Op) (words : List Shadow) → is_counted (length words) e k
+  event_words : (e : Event) (i : ℕ) (k : TurnKind) (rs : List Symbolic) (o : Op) (words : List Symbolic) → is_counted (length words) e k
       → is_thread (event_word_written (thread_in m) e k) i ≡ false →
       slice_index_or (words_after p (thread_in m) k rs o words) i (always 0) ≡ slice_index_or words i (always 0)
   event_words e i turns.Exit rs o words q h = word_other words (thread_in m) i _ _ (apart (thread_in m) i h)
   event_words e i turns.Create rs o words q h = word_older words i _ _ (λ z. apart e.object i h (q ∙ z))
   event_words e i k rs o words q h = refl
 
-  freed_bytes : (b : Bool) (o : Option FreeRegion) (bytes : ℕ → Shadow) → (has_region o && not b) ≡ false → bytes_freed b n o bytes ≡ bytes
+  freed_bytes : (b : Bool) (o : Option FreeRegion) (bytes : ℕ → Symbolic) → (has_region o && not b) ≡ false → bytes_freed b n o bytes ≡ bytes
   freed_bytes true o bytes h = refl
   freed_bytes false None bytes h = refl
   freed_bytes false (Some r) bytes h = absurd (true≢false h)
 
-  cells_by : (z : RunShadow) (k : StepKind) (c : ℕ) → may_write k c ≡ false
+  cells_by : (z : SymbolicState) (k : StepKind) (c : ℕ) → may_write k c ≡ false
       → (list_any (λ f. is_written_in f c) (access_touch d n (access_in k) ++ []) ≡ false → z.bytes c ≡ s.bytes c) →
       (is_thread (word_written (thread_in m) k) (c - MEMORY_BYTES) ≡ false → slice_index_or z.words (c - MEMORY_BYTES) (always 0) ≡ slice_index_or s.words (c - MEMORY_BYTES) (always 0))
       → cell_known z c ≡ cell_known s c
@@ -208,14 +208,14 @@ module _ (p : NumberedProgram) (d : Taken) (n : ℕ) (m : Moment) (region : Opti
   live_cells x (kinds.Access a) w q f c h = cells_by (live_by p d n m region x (kinds.Access a) s) (kinds.Access a) c h (access_bytes a c _ x.op s.bytes w) (λ z. refl)
   live_cells x (kinds.Event e) w q f c h = cells_by (live_by p d n m region x (kinds.Event e) s) (kinds.Event e) c h (event_bytes e c e.write s.words s.bytes)
       (event_words e (c - MEMORY_BYTES) e.kind _ x.op s.words q)
-  live_cells x kinds.Other w q f c h = cells_by (live_by p d n m region x kinds.Other s) kinds.Other c h (λ z. ap (λ (g : ℕ → Shadow). g c) (freed_bytes (d.pinned n) region s.bytes f))
+  live_cells x kinds.Other w q f c h = cells_by (live_by p d n m region x kinds.Other s) kinds.Other c h (λ z. ap (λ (g : ℕ → Symbolic). g c) (freed_bytes (d.pinned n) region s.bytes f))
       (λ z. refl)
   live_cells x (kinds.Branch b) w q f c h = cells_by (live_by p d n m region x (kinds.Branch b) s) (kinds.Branch b) c h
-      (λ z. ap (λ (g : ℕ → Shadow). g c) (freed_bytes (d.pinned n) region s.bytes f)) (λ z. refl)
+      (λ z. ap (λ (g : ℕ → Symbolic). g c) (freed_bytes (d.pinned n) region s.bytes f)) (λ z. refl)
   live_cells x (kinds.Allocation a b) w q f c h = cells_by (live_by p d n m region x (kinds.Allocation a b) s) (kinds.Allocation a b) c h
-      (λ z. ap (λ (g : ℕ → Shadow). g c) (freed_bytes (d.pinned n) region s.bytes f)) (λ z. refl)
+      (λ z. ap (λ (g : ℕ → Symbolic). g c) (freed_bytes (d.pinned n) region s.bytes f)) (λ z. refl)
 
-module _ (R : Reference) (d : Taken) (n : ℕ) (m : Moment) (known : RunShadow) (gated : List InstrId) (input : List ℤ) (s : State) (h : Takes gated R.program input s m.did.did) where
+module _ (R : Reference) (d : Taken) (n : ℕ) (m : Moment) (known : SymbolicState) (gated : List InstrId) (input : List ℤ) (s : State) (h : Takes gated R.program input s m.did.did) where
   abbrev region : Option FreeRegion
   region = region_of R.program R.regions m (instr_in R.program m)
 

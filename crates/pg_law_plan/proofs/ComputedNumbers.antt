@@ -29,7 +29,7 @@ use Rattle.pg_run_thread.specs.Operands.{given, number_at, operand, operands_of}
 use Rattle.pg_run_thread.specs.States.{AreValuesOf, CanStep}
 use Rattle.pg_run_thread.specs.Step.{are_set, divided_action, on_value, op_action}
 use Rattle.pg_run_thread.proofs.Typed.{some_values, typed_number}
-use Rattle.pg_slice_rules.specs.Shadows.{applied, index_narrowed, narrowed}
+use Rattle.pg_slice_rules.specs.SymbolicValues.{applied, index_narrowed, narrowed}
 
 pub truncated_small : (w : Width) (n : ℕ) → n < modulus w → truncated w n ≡ n
 truncated_small W1 n h = omega arith

@@ -31,9 +31,9 @@ use Rattle.pg_run.specs.State.{State, next_of}
 use Rattle.pg_law_effects.specs.Effect.{answer_to}
 use Rattle.pg_law_effects.specs.Views.{cell_at, cell_written, objects_of}
 use Rattle.pg_law_effects.specs.Views as views
-use Rattle.pg_slice_rules.specs.Known.{Taken, operand_at, set_shadow}
+use Rattle.pg_slice_rules.specs.Known.{Taken, operand_at, set_symbolic}
 use Rattle.pg_slice_rules.specs.Moments.{thread_in}
-use Rattle.pg_slice_rules.specs.Shadows.{Shadow, always}
+use Rattle.pg_slice_rules.specs.SymbolicValues.{Symbolic, always}
 use Rattle.pg_law_plan.specs.Likes.{AreCallsLike, IsCellLike, IsLike, like}
 use Rattle.pg_law_plan.specs.Moves.{deed_moved}
 use Rattle.pg_law_plan.specs.Units.{PlanUnit, ReferenceRun, cell_known, deed_of, is_event_at, reads_cell, reference_of, writes_cell}
@@ -56,7 +56,7 @@ use Rattle.pg_run.proofs.ActionPlaces.{place_is}
 use Rattle.pg_law_effects.proofs.ThreadLimits.{did_allowed}
 use Rattle.pg_law_effects.proofs.ReachedStates.{fresh_number}
 use Rattle.pg_run_trace.specs.Races.{is_in}
-use Rattle.pg_slice_rules.specs.Shadows.{byte_in as byte_shadow, unset}
+use Rattle.pg_slice_rules.specs.SymbolicValues.{byte_in as byte_symbolic, unset}
 use Rattle.pg_law_plan.proofs.AccessFits.{place_done}
 use Rattle.pg_law_plan.proofs.AllocationFits.{told_number}
 use Rattle.pg_law_plan.proofs.ObjectEventFits.{checked_same, numbers0, same_sync}
@@ -122,15 +122,15 @@ or_nothing : (b : Bool) → (b || false) ≡ b
 or_nothing true = refl
 or_nothing false = refl
 
-module _ (input : List ℤ) (R : ByteRange) (bytes : ℕ → Shadow) (s : Shadow) (n : ℕ) (value : IsLike input s (Some n)) where
+module _ (input : List ℤ) (R : ByteRange) (bytes : ℕ → Symbolic) (s : Symbolic) (n : ℕ) (value : IsLike input s (Some n)) where
   -- a byte of a range that is stored to
-  stored_cell : (c : ℕ) (X v : Shadow) (m : ℕ) → X ≡ Rattle.pg_slice_rules.specs.Shadows.stored R s bytes c → IsCellLike input v m →
+  stored_cell : (c : ℕ) (X v : Symbolic) (m : ℕ) → X ≡ Rattle.pg_slice_rules.specs.SymbolicValues.stored R s bytes c → IsCellLike input v m →
       IsCellLike input (or_old (if is_in R c then Some X else None) v) (or_old (if is_in R c then Some (byte_of n (c - R.start)) else None) m)
   stored_cell c X v m e k = go (is_in R c) refl
     where
       go : (b : Bool) → is_in R c ≡ b → IsCellLike input (or_old (if b then Some X else None) v) (or_old (if b then Some (byte_of n (c - R.start)) else None) m)
       go false w = k
-      go true w = subst (λ (z : Shadow). IsLike input z (Some (byte_of n (c - R.start)))) (sym (e ∙ ap (λ (b : Bool). if b then byte_shadow (c - R.start) s else bytes c) w))
+      go true w = subst (λ (z : Symbolic). IsLike input z (Some (byte_of n (c - R.start)))) (sym (e ∙ ap (λ (b : Bool). if b then byte_symbolic (c - R.start) s else bytes c) w))
           (cut_like input (λ k. byte_of k (c - R.start)) s n value)
 
 module _ (r : ReferenceRun) (d : Taken) (input : List ℤ) (program : IsProgram r.program) (u : PlanUnit) (st : State) (moves : ℕ → ℕ) (y : Step) (q : Pair r d input u st moves y)
@@ -164,10 +164,10 @@ module _ (r : ReferenceRun) (d : Taken) (input : List ℤ) (program : IsProgram 
     threads_same : length st.locals ≡ length u.state.locals
     threads_same = same_threads (same_sync r d input program u st moves y q good objects r0 r1 act0 act refl)
 
-    bytes_is : (c : ℕ) → nat_lt c MEMORY_BYTES ≡ true → cell_known u.known c ≡ Rattle.pg_slice_rules.specs.Shadows.stored R (always (length u.state.locals)) u.seen.before.bytes c
+    bytes_is : (c : ℕ) → nat_lt c MEMORY_BYTES ≡ true → cell_known u.known c ≡ Rattle.pg_slice_rules.specs.SymbolicValues.stored R (always (length u.state.locals)) u.seen.before.bytes c
     bytes_is c lt = ap (λ (z : Bool). if z then u.known.bytes c else slice_index_or u.known.words (c - MEMORY_BYTES) (always 0)) lt
-        ∙ ap (λ (f : ℕ → Shadow). f c) (known_bytes r d input program u st moves y q good objects r0 r1 act0 act refl)
-        ∙ ap (λ (z : ByteRange). Rattle.pg_slice_rules.specs.Shadows.stored z (always (length u.state.locals)) u.seen.before.bytes c) range_is
+        ∙ ap (λ (f : ℕ → Symbolic). f c) (known_bytes r d input program u st moves y q good objects r0 r1 act0 act refl)
+        ∙ ap (λ (z : ByteRange). Rattle.pg_slice_rules.specs.SymbolicValues.stored z (always (length u.state.locals)) u.seen.before.bytes c) range_is
 
     argument_known : IsLike input (operand_at r.program q.both.ks q.both.x.op 3) (Some n1)
     argument_known = subst (λ (z : Op). IsLike input (operand_at r.program q.both.ks z 3) (Some n1)) (sym e)
@@ -175,9 +175,9 @@ module _ (r : ReferenceRun) (d : Taken) (input : List ℤ) (program : IsProgram 
         (argument_like input r.program q.both.ks q.both.f.registers q.both.top.registers args 3))
 
     word_is : (c : ℕ) → nat_lt c MEMORY_BYTES ≡ false → (length u.state.sync.threads == (c - MEMORY_BYTES)) ≡ true → IsLike input (cell_known u.known c) (Some n1)
-    word_is c lt w = subst (λ (s : Shadow). IsLike input s (Some n1))
+    word_is c lt w = subst (λ (s : Symbolic). IsLike input s (Some n1))
         (sym (ap (λ (z : Bool). if z then u.known.bytes c else slice_index_or u.known.words (c - MEMORY_BYTES) (always 0)) lt
-        ∙ ap (λ (ws : List Shadow). slice_index_or ws (c - MEMORY_BYTES) (always 0)) (known_words r d input program u st moves y q good objects r0 r1 act0 act refl)
+        ∙ ap (λ (ws : List Symbolic). slice_index_or ws (c - MEMORY_BYTES) (always 0)) (known_words r d input program u st moves y q good objects r0 r1 act0 act refl)
         ∙ ap (λ (i : ℕ). slice_index_or (u.seen.before.words ++ operand_at r.program q.both.ks q.both.x.op 3 ∷ []) i (always 0))
         (sym (words ∙ sym q.unit.met.reached.machine.threads ∙ eqb-true (length u.state.sync.threads) (c - MEMORY_BYTES) w))
         ∙ word_pushed u.seen.before.words (operand_at r.program q.both.ks q.both.x.op 3) (always 0))) argument_known
@@ -200,7 +200,7 @@ module _ (r : ReferenceRun) (d : Taken) (input : List ℤ) (program : IsProgram 
         ∙ ap (λ (o : Option ℕ). if nat_lt c MEMORY_BYTES then (if is_in R c then Some (byte_of (length st.locals) (c - R.start)) else None) else
         (if length u.state.sync.threads == (c - MEMORY_BYTES) then Some n1 else o)) (nones (thread_in u.seen.moment == (c - MEMORY_BYTES)))
 
-    create_cell : (c : ℕ) (s : Shadow) (m : ℕ) → IsCellLike input s m
+    create_cell : (c : ℕ) (s : Symbolic) (m : ℕ) → IsCellLike input s m
         → IsCellLike input (or_old (if writes_cell d u.seen c then Some (cell_known u.known c) else None) s) (or_old (cell_written ef c) m)
     create_cell c s m k = rw (wc_here c, cw_here c) (go (nat_lt c MEMORY_BYTES) refl (length u.state.sync.threads == (c - MEMORY_BYTES)) refl)
       where
@@ -244,7 +244,7 @@ module _ (r : ReferenceRun) (d : Taken) (input : List ℤ) (program : IsProgram 
     created_fits = event_fits r d input program u st moves y q good objects r0 r1 act0 act refl _ (known_is r d input program u st moves y q good objects r0 r1 act0 act refl)
         (ap (heap_after r.program (own_memory l) q.both.f.registers) e ∙ sym (ap (heap_after r.program (own_memory l0) q.both.f0.registers) e))
         (subst (λ (z : Op). AreCallsLike input (op_after r.program l0 q.both.x (answer0 r d input u st moves y q) z)
-        (set_shadow q.both.x.result (always (or_zero q.both.x.result (op_own r.program l0 q.both.f0.registers (answer0 r d input u st moves y q) z))) q.both.ks ∷ q.both.more)
+        (set_symbolic q.both.x.result (always (or_zero q.both.x.result (op_own r.program l0 q.both.f0.registers (answer0 r d input u st moves y q) z))) q.both.ks ∷ q.both.more)
         (op_after r.program l q.both.x (answer r d input u st moves y q) z)) (sym e) (
           record {
             function = q.both.top.function;
@@ -331,12 +331,12 @@ module _ (r : ReferenceRun) (d : Taken) (input : List ℤ) (program : IsProgram 
           let z : cell_at st (MEMORY_BYTES + g) ≡ slice_index st.words g =
           ap (λ (z : Bool). if z then Rattle.pg_run_memory.specs.Memory.byte_at st.memory (MEMORY_BYTES + g) else slice_index st.words (MEMORY_BYTES + g - MEMORY_BYTES)) b.0
           ∙ ap (slice_index st.words) b.1 in
-          subst (λ (s : Shadow). IsLike input s (Some (slice_index st.words g))) x (subst (λ (n : ℕ). IsLike input (cell_known u.seen.before (MEMORY_BYTES + g)) (Some n)) z h)
+          subst (λ (s : Symbolic). IsLike input s (Some (slice_index st.words g))) x (subst (λ (n : ℕ). IsLike input (cell_known u.seen.before (MEMORY_BYTES + g)) (Some n)) z h)
 
-      join_bytes : (c : ℕ) → nat_lt c MEMORY_BYTES ≡ true → cell_known u.known c ≡ Rattle.pg_slice_rules.specs.Shadows.stored R (slice_index_or u.seen.before.words g unset) u.seen.before.bytes c
+      join_bytes : (c : ℕ) → nat_lt c MEMORY_BYTES ≡ true → cell_known u.known c ≡ Rattle.pg_slice_rules.specs.SymbolicValues.stored R (slice_index_or u.seen.before.words g unset) u.seen.before.bytes c
       join_bytes c lt = ap (λ (z : Bool). if z then u.known.bytes c else slice_index_or u.known.words (c - MEMORY_BYTES) (always 0)) lt
-          ∙ ap (λ (f : ℕ → Shadow). f c) (known_bytes r d input program u st moves y q good objects rj rj act0 act refl)
-          ∙ ap (λ (z : ByteRange). Rattle.pg_slice_rules.specs.Shadows.stored z (slice_index_or u.seen.before.words g unset) u.seen.before.bytes c) join_range
+          ∙ ap (λ (f : ℕ → Symbolic). f c) (known_bytes r d input program u st moves y q good objects rj rj act0 act refl)
+          ∙ ap (λ (z : ByteRange). Rattle.pg_slice_rules.specs.SymbolicValues.stored z (slice_index_or u.seen.before.words g unset) u.seen.before.bytes c) join_range
 
       wj : (c : ℕ) → writes_cell d u.seen c ≡ (if nat_lt c MEMORY_BYTES then is_in R c else false)
       wj c = wc_is r d input program u st moves y q good objects rj rj act0 act refl c
@@ -352,7 +352,7 @@ module _ (r : ReferenceRun) (d : Taken) (input : List ℤ) (program : IsProgram 
           ∙ ap (λ (o : Option ℕ). if nat_lt c MEMORY_BYTES then (if is_in R c then Some (byte_of (slice_index st.words g) (c - R.start)) else None) else o)
           (no_word (thread_in u.seen.moment == (c - MEMORY_BYTES)))
 
-      join_cell : (c : ℕ) (s : Shadow) (m : ℕ) → IsCellLike input s m
+      join_cell : (c : ℕ) (s : Symbolic) (m : ℕ) → IsCellLike input s m
           → IsCellLike input (or_old (if writes_cell d u.seen c then Some (cell_known u.known c) else None) s) (or_old (cell_written ef c) m)
       join_cell c s m k = rw (wj c, cj c) (go (nat_lt c MEMORY_BYTES) refl)
         where
@@ -393,7 +393,7 @@ module _ (r : ReferenceRun) (d : Taken) (input : List ℤ) (program : IsProgram 
       joined_fits = event_fits r d input program u st moves y q good objects rj rj act0 act refl _ (known_is r d input program u st moves y q good objects rj rj act0 act refl)
           (ap (heap_after r.program (own_memory l) q.both.f.registers) e ∙ sym (ap (heap_after r.program (own_memory l0) q.both.f0.registers) e))
           (subst (λ (z : Op). AreCallsLike input (op_after r.program l0 q.both.x (answer0 r d input u st moves y q) z)
-          (set_shadow q.both.x.result (always (or_zero q.both.x.result (op_own r.program l0 q.both.f0.registers (answer0 r d input u st moves y q) z))) q.both.ks ∷ q.both.more)
+          (set_symbolic q.both.x.result (always (or_zero q.both.x.result (op_own r.program l0 q.both.f0.registers (answer0 r d input u st moves y q) z))) q.both.ks ∷ q.both.more)
           (op_after r.program l q.both.x (answer r d input u st moves y q) z)) (sym e) (
             record {
               function = q.both.top.function;

@@ -14,7 +14,7 @@ use Rattle.pg_law_effects.specs.Reached.{IsReached}
 use Rattle.pg_law_effects.specs.Views.{local_at, objects_of}
 use Rattle.pg_law_effects.proofs.ReachedStates.{reached_first, reached_step}
 use Rattle.pg_slice_rules.specs.Extents.{is_live}
-use Rattle.pg_slice_rules.specs.Known.{RunShadow, Seen, Taken, after_step, region_of, seen_from, start_of, thread_of}
+use Rattle.pg_slice_rules.specs.Known.{SymbolicState, Seen, Taken, after_step, region_of, seen_from, start_of, thread_of}
 use Rattle.pg_slice_rules.specs.Moments.{calls_of, instr_in, moments_from, state_after, thread_in}
 use Rattle.pg_law_plan.specs.Order.{IsOrderedRun}
 use Rattle.pg_law_plan.specs.Units.{Met, PlanUnit, ReferenceRun, behind, is_instance, last_from, met_in, met_with, next_local, reference_of, states_from, turns_of, unit_of, units_from, units_of}
@@ -39,7 +39,7 @@ module _ (r : ReferenceRun) (d : Taken) where
   pub behind_is : (s : State) (x : Step) (h : Takes r.gated r.program r.input s x) → behind r s x.thread.0 ≡ h.after
   behind_is s x h = ap (state_after s) h.is_step
 
-  met_is : (T : List ℕ) (k n : ℕ) (known : RunShadow) (s z : State) (xs : List Step) → IsProgram r.program → length r.input < 2 ^ 64 → IsReached r.program s
+  met_is : (T : List ℕ) (k n : ℕ) (known : SymbolicState) (s z : State) (xs : List Step) → IsProgram r.program → length r.input < 2 ^ 64 → IsReached r.program s
       → IsRun r.gated r.program r.input s xs z →
       AllOf (λ (m : Met). IsMet r d m.seen m.state) (met_with (seen_from (reference_of r) d n known (moments_from r.gated r.program r.input s (times recorded T k xs))) (states_from r s xs))
   unfolding seen_from moments_from states_from

@@ -15,7 +15,7 @@ use Rattle.pg_law_effects.specs.PermittedSteps.{none_taken}
 use Rattle.pg_law_effects.specs.Views.{cell_at, local_at}
 use Rattle.pg_law_effects.specs.Reached.{HoldBytes}
 use Rattle.pg_slice_rules.specs.Known.{start_of, thread_of}
-use Rattle.pg_slice_rules.specs.Shadows.{always}
+use Rattle.pg_slice_rules.specs.SymbolicValues.{always}
 use Rattle.pg_law_plan.specs.Likes.{IsCellLike, StandLike, like}
 use Rattle.pg_law_plan.proofs.LikeOperands.{valued_like}
 use Rattle.pg_law_plan.specs.Moves.{moved}

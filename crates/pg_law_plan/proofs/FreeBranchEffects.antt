@@ -18,11 +18,11 @@ use Rattle.pg_slice_rules.specs.declared.decision.Decision.{Decision}
 use Rattle.pg_slice_rules.specs.declared.decision.Decision.TheVariants.{Pinned}
 use Rattle.pg_slice_rules.specs.Extents.{Extent, begun, ends, is_live, open_after}
 use Rattle.pg_slice_rules.specs.Freeable.{FreeAccess, FreeRegion, bounds_of, region_at}
-use Rattle.pg_slice_rules.specs.Known.{Reference, RunShadow, Seen, Taken, ThreadShadow, after_step, bytes_freed, edge_of, forgotten_bytes, fresh_thread, is_branch, live_after, live_by, no_thread}
+use Rattle.pg_slice_rules.specs.Known.{Reference, SymbolicState, Seen, Taken, SymbolicThread, after_step, bytes_freed, edge_of, forgotten_bytes, fresh_thread, is_branch, live_after, live_by, no_thread}
 use Rattle.pg_slice_rules.specs.Known.{region_of, thread_of, threads_after, with_extents}
 use Rattle.pg_slice_rules.specs.Moments.{Moment, instr_in, thread_in}
 use Rattle.pg_slice_rules.specs.Rules.{has_region, footprints_in}
-use Rattle.pg_slice_rules.specs.Shadows.{Shadow, Unknown, always, spoiled}
+use Rattle.pg_slice_rules.specs.SymbolicValues.{Symbolic, Unknown, always, spoiled}
 use Rattle.pg_law_plan.specs.Units.{access_touch, cell_known, is_instance, is_written_in, word_written, writes_cell}
 use Rattle.pg_law_effects.specs.Views.{is_thread}
 
@@ -46,28 +46,28 @@ all_left f g (x ∷ xs) h = let p = and_parts (f x) (list_all f xs) h in go (g x
 
 -- ---- extents
 
-abbrev pub extents_in : List ThreadShadow → ℕ → List Extent
+abbrev pub extents_in : List SymbolicThread → ℕ → List Extent
 extents_in threads u = (slice_index_or threads u no_thread).extents
 
-set_other : (threads : List ThreadShadow) (t u : ℕ) (z : ThreadShadow) → u ≢ t → extents_in (slice_set threads t z) u ≡ extents_in threads u
+set_other : (threads : List SymbolicThread) (t u : ℕ) (z : SymbolicThread) → u ≢ t → extents_in (slice_set threads t z) u ≡ extents_in threads u
 set_other [] t u z h = refl
 set_other (x ∷ xs) zero zero z h = absurd (h refl)
 set_other (x ∷ xs) zero (suc u) z h = refl
 set_other (x ∷ xs) (suc t) zero z h = refl
 set_other (x ∷ xs) (suc t) (suc u) z h = set_other xs t u z (λ e. h (ap suc e))
 
-push_any : (p : NumberedProgram) (f : ℕ) (threads : List ThreadShadow) (u : ℕ) → extents_in (threads ++ fresh_thread p f ∷ []) u ≡ extents_in threads u
+push_any : (p : NumberedProgram) (f : ℕ) (threads : List SymbolicThread) (u : ℕ) → extents_in (threads ++ fresh_thread p f ∷ []) u ≡ extents_in threads u
 push_any p f [] zero = refl
 push_any p f [] (suc u) = refl
 push_any p f (x ∷ xs) zero = refl
 push_any p f (x ∷ xs) (suc u) = push_any p f xs u
 
-event_other : (p : NumberedProgram) (t : ℕ) (e : Event) (k : TurnKind) (old : List ThreadShadow) (z : ThreadShadow) (u : ℕ) → u ≢ t
+event_other : (p : NumberedProgram) (t : ℕ) (e : Event) (k : TurnKind) (old : List SymbolicThread) (z : SymbolicThread) (u : ℕ) → u ≢ t
     → extents_in (threads_after p e k (slice_set old t z)) u ≡ extents_in old u
 event_other p t e turns.Create old z u h = push_any p _ (slice_set old t z) u ∙ set_other old t u z h
 event_other p t e k old z u h = set_other old t u z h
 
-live_other : (p : NumberedProgram) (d : Taken) (n : ℕ) (m : Moment) (region : Option FreeRegion) (x : Instr) (k : StepKind) (s : RunShadow) (u : ℕ) → u ≢ thread_in m
+live_other : (p : NumberedProgram) (d : Taken) (n : ℕ) (m : Moment) (region : Option FreeRegion) (x : Instr) (k : StepKind) (s : SymbolicState) (u : ℕ) → u ≢ thread_in m
     → extents_in (live_by p d n m region x k s).threads u ≡ extents_in s.threads u
 live_other p d n m region x (kinds.Event e) s u h = event_other p (thread_in m) e e.kind s.threads _ u h
 live_other p d n m region x (kinds.Access a) s u h = set_other s.threads (thread_in m) u _ h
@@ -76,7 +76,7 @@ live_other p d n m region x (kinds.Branch c) s u h = set_other s.threads (thread
 live_other p d n m region x (kinds.Allocation a b) s u h = set_other s.threads (thread_in m) u _ h
 
 -- a thread's extents are these, or it isn't there
-own_live : (pinned : ℕ → Bool) (threads : List ThreadShadow) (t : ℕ) (es : List Extent) → is_live pinned es ≡ true → is_live pinned (extents_in (with_extents t es threads) t) ≡ true
+own_live : (pinned : ℕ → Bool) (threads : List SymbolicThread) (t : ℕ) (es : List Extent) → is_live pinned es ≡ true → is_live pinned (extents_in (with_extents t es threads) t) ≡ true
 own_live pinned [] t es h = refl
 own_live pinned (x ∷ xs) zero es h = h
 own_live pinned (x ∷ xs) (suc t) es h = own_live pinned xs t es h
@@ -90,7 +90,7 @@ begun_live pinned n depth (Some r) es f h = and_from (pinned n) (is_live pinned 
     go true e = refl
     go false e = absurd (true≢false e)
 
-module _ (R : Reference) (d : Taken) (n : ℕ) (m : Moment) (known : RunShadow) where
+module _ (R : Reference) (d : Taken) (n : ℕ) (m : Moment) (known : SymbolicState) where
   abbrev region : Option FreeRegion
   region = region_of R.program R.regions m (instr_in R.program m)
 
@@ -114,14 +114,14 @@ module _ (R : Reference) (d : Taken) (n : ℕ) (m : Moment) (known : RunShadow) 
       (begun n (length m.calls) region (thread_of known (thread_in m)).extents) (begun_live d.pinned n (length m.calls) region (thread_of known (thread_in m)).extents f h))
 
 -- a step that is left out changes nothing but extents
-set_calls : (threads : List ThreadShadow) (t u : ℕ) (es : List Extent) → (slice_index_or (with_extents t es threads) u no_thread).calls ≡ (slice_index_or threads u no_thread).calls
+set_calls : (threads : List SymbolicThread) (t u : ℕ) (es : List Extent) → (slice_index_or (with_extents t es threads) u no_thread).calls ≡ (slice_index_or threads u no_thread).calls
 set_calls [] t u es = refl
 set_calls (x ∷ xs) zero zero es = refl
 set_calls (x ∷ xs) zero (suc u) es = refl
 set_calls (x ∷ xs) (suc t) zero es = refl
 set_calls (x ∷ xs) (suc t) (suc u) es = set_calls xs t u es
 
-module _ (R : Reference) (d : Taken) (n : ℕ) (m : Moment) (known : RunShadow) (dead : is_live d.pinned (thread_of known (thread_in m)).extents ≡ false) where
+module _ (R : Reference) (d : Taken) (n : ℕ) (m : Moment) (known : SymbolicState) (dead : is_live d.pinned (thread_of known (thread_in m)).extents ≡ false) where
   abbrev here : Option FreeRegion
   here = region_of R.program R.regions m (instr_in R.program m)
 
@@ -138,7 +138,7 @@ module _ (R : Reference) (d : Taken) (n : ℕ) (m : Moment) (known : RunShadow) 
 
 -- ---- bytes
 
-written_one : (a : FreeAccess) (x : Decision) (bytes : ℕ → Shadow) (c : ℕ) (w : Bool) → (w && is_in (bounds_of a.at.last) c) ≡ false
+written_one : (a : FreeAccess) (x : Decision) (bytes : ℕ → Symbolic) (c : ℕ) (w : Bool) → (w && is_in (bounds_of a.at.last) c) ≡ false
     → (if w then spoiled (bounds_of a.at.last) x bytes else bytes) c ≡ bytes c
 written_one a x bytes c true h = go (is_in (bounds_of a.at.last) c) h
   where
@@ -147,17 +147,17 @@ written_one a x bytes c true h = go (is_in (bounds_of a.at.last) c) h
     go false e = refl
 written_one a x bytes c false h = refl
 
-forgotten_kept : (xs : List FreeAccess) (x : Decision) (bytes : ℕ → Shadow) (c : ℕ)
+forgotten_kept : (xs : List FreeAccess) (x : Decision) (bytes : ℕ → Symbolic) (c : ℕ)
     → list_any (λ f. is_written_in f c) (map (λ (a : FreeAccess). record { bytes = bounds_of a.at.last; writes = a.writes }) xs) ≡ false → forgotten_bytes xs x bytes c ≡ bytes c
 forgotten_kept [] x bytes c h = refl
 forgotten_kept (a ∷ xs) x bytes c h =
     let k = no_either (a.writes && is_in (bounds_of a.at.last) c) _ h in
     forgotten_kept xs x (if a.writes then spoiled (bounds_of a.at.last) x bytes else bytes) c k.1 ∙ written_one a x bytes c a.writes k.0
 
-abbrev pub IsUnknown : Shadow → Type 0
+abbrev pub IsUnknown : Symbolic → Type 0
 IsUnknown s = (x : Decision) × (s ≡ Unknown x)
 
-written_unknown : (a : FreeAccess) (x : Decision) (bytes : ℕ → Shadow) (c : ℕ) (w : Bool) → (w && is_in (bounds_of a.at.last) c) ≡ true
+written_unknown : (a : FreeAccess) (x : Decision) (bytes : ℕ → Symbolic) (c : ℕ) (w : Bool) → (w && is_in (bounds_of a.at.last) c) ≡ true
     → IsUnknown ((if w then spoiled (bounds_of a.at.last) x bytes else bytes) c)
 written_unknown a x bytes c true h = go (is_in (bounds_of a.at.last) c) h
   where
@@ -166,7 +166,7 @@ written_unknown a x bytes c true h = go (is_in (bounds_of a.at.last) c) h
     go false e = absurd (true≢false (sym e))
 written_unknown a x bytes c false h = absurd (true≢false (sym h))
 
-still_unknown : (xs : List FreeAccess) (x : Decision) (bytes : ℕ → Shadow) (c : ℕ) → IsUnknown (bytes c) → IsUnknown (forgotten_bytes xs x bytes c)
+still_unknown : (xs : List FreeAccess) (x : Decision) (bytes : ℕ → Symbolic) (c : ℕ) → IsUnknown (bytes c) → IsUnknown (forgotten_bytes xs x bytes c)
 still_unknown [] x bytes c h = h
 still_unknown (a ∷ xs) x bytes c h = still_unknown xs x (if a.writes then spoiled (bounds_of a.at.last) x bytes else bytes) c (go (a.writes && is_in (bounds_of a.at.last) c) refl)
   where
@@ -174,7 +174,7 @@ still_unknown (a ∷ xs) x bytes c h = still_unknown xs x (if a.writes then spoi
     go true e = written_unknown a x bytes c a.writes e
     go false e = subst IsUnknown (sym (written_one a x bytes c a.writes e)) h
 
-forgotten_unknown : (xs : List FreeAccess) (x : Decision) (bytes : ℕ → Shadow) (c : ℕ)
+forgotten_unknown : (xs : List FreeAccess) (x : Decision) (bytes : ℕ → Symbolic) (c : ℕ)
     → list_any (λ f. is_written_in f c) (map (λ (a : FreeAccess). record { bytes = bounds_of a.at.last; writes = a.writes }) xs) ≡ true → IsUnknown (forgotten_bytes xs x bytes c)
 forgotten_unknown [] x bytes c h = absurd (true≢false (sym h))
 forgotten_unknown (a ∷ xs) x bytes c h = go (a.writes && is_in (bounds_of a.at.last) c) refl h (forgotten_unknown xs x (if a.writes then spoiled (bounds_of a.at.last) x bytes else bytes) c)

@@ -26,7 +26,7 @@ use Rattle.pg_law_effects.proofs.ReachedStates.{reached_first, reached_step}
 use Rattle.pg_law_effects.proofs.StepViews.{leads_to}
 use Rattle.pg_law_runs.proofs.DeedDependence.{request_event, some_turn}
 use Rattle.pg_slice_rules.specs.Extents.{is_live}
-use Rattle.pg_slice_rules.specs.Known.{RunShadow, Seen, Taken, ThreadShadow, after_step, no_thread, region_of, seen_from, start_of, thread_of}
+use Rattle.pg_slice_rules.specs.Known.{SymbolicState, Seen, Taken, SymbolicThread, after_step, no_thread, region_of, seen_from, start_of, thread_of}
 use Rattle.pg_slice_rules.specs.Moments.{Moment, calls_of, instr_in, moments_from, thread_in}
 use Rattle.pg_slice_rules.specs.Rules.{footprints_in}
 use Rattle.pg_run_trace.specs.Steps.{access_in}
@@ -69,7 +69,7 @@ some_there ls u h = go (slice_get ls u) refl h
     go (Some l) e k = slice_get_within ls u l e
 
 -- of a thread that isn't made nothing is known
-past_extents : (threads : List ThreadShadow) (u : ℕ) → length threads ≤ u → slice_index_or threads u no_thread ≡ no_thread
+past_extents : (threads : List SymbolicThread) (u : ℕ) → length threads ≤ u → slice_index_or threads u no_thread ≡ no_thread
 past_extents [] u h = refl
 past_extents (x ∷ xs) zero h = absurd (omega (arith, h))
 past_extents (x ∷ xs) (suc u) h = past_extents xs u (omega (arith, h))
@@ -83,27 +83,27 @@ begun_none o e = ap begun_in e
 
 module _ (r : ReferenceRun) (d : Taken) (program : IsProgram r.program) (small : length r.input < 2 ^ 64) where
   -- what holds before each step
-  pub record Holds (known : RunShadow) (s : State) : Type 0 where
+  pub record Holds (known : SymbolicState) (s : State) : Type 0 where
     pub reached : IsReached r.program s
     pub words : length known.words ≡ length s.locals
     pub started : AreFresh r.program known s
 
   -- the steps of a run from a state on, as they are met
-  abbrev pub met_from : List ℕ → ℕ → ℕ → RunShadow → State → List Step → List Met
+  abbrev pub met_from : List ℕ → ℕ → ℕ → SymbolicState → State → List Step → List Met
   met_from T k n known s xs = met_with (seen_from (reference_of r) d n known (moments_from r.gated r.program r.input s (times recorded T k xs))) (states_from r s xs)
 
   abbrev pub IsLeft : Seen → Type 0
   IsLeft x = x.live ≡ false → is_event_at x ≡ false
 
   -- a state of a plan before these steps: each thread stands where its next unit begins
-  abbrev before : State → List Met → RunShadow → State → (ℕ → ℕ) → PlanState
+  abbrev before : State → List Met → SymbolicState → State → (ℕ → ℕ) → PlanState
   before last ms known s counts = record {
     locals = λ v. record { standing = standing_of (next_local v last ms) (thread_of known v).calls; units = counts v };
     cells = cell_known known;
     objects = objects_of s;
   }
 
-  module _ (n : ℕ) (m : Moment) (known : RunShadow) (s : State) (counts : ℕ → ℕ) (last : State) (ms : List Met) (h : Takes r.gated r.program r.input s m.did.did) (holds : Holds known s)
+  module _ (n : ℕ) (m : Moment) (known : SymbolicState) (s : State) (counts : ℕ → ℕ) (last : State) (ms : List Met) (h : Takes r.gated r.program r.input s m.did.did) (holds : Holds known s)
       (plain : is_live d.pinned (thread_of known (thread_in m)).extents ≡ false → is_some (happening_in m.did.did.kind) ≡ false) where
     abbrev x : Seen
     x = record { number = n; moment = m; region = region_of r.program r.regions m (instr_in r.program m); live = is_live d.pinned (thread_of known (thread_in m)).extents; before = known }
@@ -114,7 +114,7 @@ module _ (r : ReferenceRun) (d : Taken) (program : IsProgram r.program) (small :
     abbrev u : PlanUnit
     u = unit_of r d last counts (record { seen = x; state = s }) ms
 
-    abbrev after : RunShadow
+    abbrev after : SymbolicState
     after = after_step (reference_of r) d n m known
 
     pub holds_after : Holds after h.after
@@ -168,7 +168,7 @@ module _ (r : ReferenceRun) (d : Taken) (program : IsProgram r.program) (small :
             → standing_of (next_local v last ms) (thread_of known v).calls ≡ standing_of (next_local v last ms) (thread_of after v).calls
         go (inl lt) = ap (λ c. standing_of (next_local v last ms) c) (sym (others_kept (reference_of r) d n m known r.gated r.input s h plain v w lt))
         go (inr le) =
-            let none_left : (thread_of after v).extents ≡ [] = others_open (reference_of r) d n m known v w ∙ ap (λ (z : ThreadShadow). z.extents) (past_extents known.threads v le) in
+            let none_left : (thread_of after v).extents ≡ [] = others_open (reference_of r) d n m known v w ∙ ap (λ (z : SymbolicThread). z.extents) (past_extents known.threads v le) in
             let size = holds.started.number in
             let none : next_local v last ms ≡ None =
             stays v (ap (is_live d.pinned) none_left) ∙ local_kept v w ∙ begun_none (slice_get s.locals v) (slice_get_past s.locals v (omega (arith, le, size))) in
@@ -234,7 +234,7 @@ module _ (r : ReferenceRun) (d : Taken) (program : IsProgram r.program) (small :
 
   module _ (last : State) where
     -- a thread whose next step is live, if it has one, stands where its next unit begins
-    pub stays : (T : List ℕ) (k n : ℕ) (known : RunShadow) (s w : State) (xs : List Step) (v : ℕ) → last ≡ w → IsRun r.gated r.program r.input s xs w → Holds known s →
+    pub stays : (T : List ℕ) (k n : ℕ) (known : SymbolicState) (s w : State) (xs : List Step) (v : ℕ) → last ≡ w → IsRun r.gated r.program r.input s xs w → Holds known s →
         AllOf IsLeft (seen_from (reference_of r) d n known (moments_from r.gated r.program r.input s (times recorded T k xs))) →
         is_live d.pinned (thread_of known v).extents ≡ true → next_local v last (met_from T k n known s xs) ≡ local_at s v
     unfolding seen_from moments_from states_from
@@ -250,7 +250,7 @@ module _ (r : ReferenceRun) (d : Taken) (program : IsProgram r.program) (small :
         m = record { did = timed recorded T k y; calls = calls_of (slice_get s.locals y.thread.0); bytes = byte_at s.memory }
 
         go : (v ≡ y.thread.0) ⊎ (v ≢ y.thread.0) →
-            ((known2 : RunShadow) → Holds known2 (behind r s y.thread.0)
+            ((known2 : SymbolicState) → Holds known2 (behind r s y.thread.0)
             → AllOf IsLeft (seen_from (reference_of r) d (suc n) known2
             (moments_from r.gated r.program r.input (behind r s y.thread.0) (times recorded T (done_after (recorded.is_event y) k) ys)))
             → is_live d.pinned (thread_of known2 v).extents ≡ true
@@ -276,12 +276,12 @@ module _ (r : ReferenceRun) (d : Taken) (program : IsProgram r.program) (small :
       cells : (c : ℕ) → (effects z (map (deed_of d) us)).cells c ≡ cell_known v.seen.before c
       objects : (effects z (map (deed_of d) us)).objects ≡ objects_of v.state
 
-    module _ (T : List ℕ) (k n : ℕ) (known : RunShadow) (s w : State) (y : Step) (ys : List Step) (counts : ℕ → ℕ) (q : last ≡ w)
+    module _ (T : List ℕ) (k n : ℕ) (known : SymbolicState) (s w : State) (y : Step) (ys : List Step) (counts : ℕ → ℕ) (q : last ≡ w)
         (run : IsRun r.gated r.program r.input s (y ∷ ys) w) (holds : Holds known s) where
       abbrev m : Moment
       m = record { did = timed recorded T k y; calls = calls_of (slice_get s.locals y.thread.0); bytes = byte_at s.memory }
 
-      abbrev known2 : RunShadow
+      abbrev known2 : SymbolicState
       known2 = after_step (reference_of r) d n m known
 
       abbrev live : Bool
@@ -319,7 +319,7 @@ module _ (r : ReferenceRun) (d : Taken) (program : IsProgram r.program) (small :
         stays_there : Stays n m known s counts last later run.0 holds left
         stays_there v e = stays T (done_after (recorded.is_event y) k) (suc n) known2 (behind r s y.thread.0) w ys v q run_there holds_there more e ∙ ap (λ (z : State). local_at z v) b
 
-    recalls : (T : List ℕ) (k n : ℕ) (known : RunShadow) (s w : State) (xs : List Step) (counts : ℕ → ℕ) (z : PlanState) → last ≡ w → IsRun r.gated r.program r.input s xs w
+    recalls : (T : List ℕ) (k n : ℕ) (known : SymbolicState) (s w : State) (xs : List Step) (counts : ℕ → ℕ) (z : PlanState) → last ≡ w → IsRun r.gated r.program r.input s xs w
         → Holds known s →
         Same z (before last (met_from T k n known s xs) known s counts) →
         AllOf IsLeft (seen_from (reference_of r) d n known (moments_from r.gated r.program r.input s (times recorded T k xs))) →
@@ -362,7 +362,7 @@ module _ (r : ReferenceRun) (d : Taken) (program : IsProgram r.program) (small :
             (later T k n known s w y ys counts q run holds) run.0 holds left.0 off z same) us p
 
     -- the last objects are the last state's
-    leaves : (T : List ℕ) (k n : ℕ) (known : RunShadow) (s w : State) (xs : List Step) (counts : ℕ → ℕ) (z : PlanState) → last ≡ w → IsRun r.gated r.program r.input s xs w
+    leaves : (T : List ℕ) (k n : ℕ) (known : SymbolicState) (s w : State) (xs : List Step) (counts : ℕ → ℕ) (z : PlanState) → last ≡ w → IsRun r.gated r.program r.input s xs w
         → Holds known s →
         Same z (before last (met_from T k n known s xs) known s counts) →
         AllOf IsLeft (seen_from (reference_of r) d n known (moments_from r.gated r.program r.input s (times recorded T k xs))) →

@@ -10,10 +10,10 @@ use Rattle.pg_run_trace.specs.declared.step.StepKind.{StepKind}
 use Rattle.pg_run_trace.specs.declared.step.StepKind.TheVariants as kinds
 use Rattle.pg_slice_rules.specs.Extents.{Extent, is_live, open_after}
 use Rattle.pg_slice_rules.specs.Freeable.{FreeRegion}
-use Rattle.pg_slice_rules.specs.Known.{Reference, RunShadow, Taken, ThreadShadow, after_access, after_event, after_op, after_step, bytes_freed, edge_of, fresh_thread, live_after, live_by}
+use Rattle.pg_slice_rules.specs.Known.{Reference, SymbolicState, Taken, SymbolicThread, after_access, after_event, after_op, after_step, bytes_freed, edge_of, fresh_thread, live_after, live_by}
 use Rattle.pg_slice_rules.specs.Known.{no_thread, on_thread, region_of, result_in, thread_of, threads_after, with_extents, with_top}
 use Rattle.pg_slice_rules.specs.Moments.{Moment, instr_in, thread_in}
-use Rattle.pg_slice_rules.specs.Shadows.{Shadow, unset}
+use Rattle.pg_slice_rules.specs.SymbolicValues.{Symbolic, unset}
 
 -- a step that is neither an access nor an event
 abbrev pub IsInnerKind : StepKind → Type 0
@@ -21,18 +21,18 @@ IsInnerKind (kinds.Access a) = ⊥
 IsInnerKind (kinds.Event e) = ⊥
 IsInnerKind k = Unit {0}
 
-pub extents_leave : (threads : List ThreadShadow) (t : ℕ) (es : List Extent) → (slice_index_or (with_extents t es threads) t no_thread).calls ≡ (slice_index_or threads t no_thread).calls
+pub extents_leave : (threads : List SymbolicThread) (t : ℕ) (es : List Extent) → (slice_index_or (with_extents t es threads) t no_thread).calls ≡ (slice_index_or threads t no_thread).calls
 extents_leave [] t es = refl
 extents_leave (x ∷ xs) zero es = refl
 extents_leave (x ∷ xs) (suc t) es = extents_leave xs t es
 
-pub thread_calls : (threads : List ThreadShadow) (t : ℕ) (F : List (List Shadow) → List (List Shadow)) (ks : List Shadow) (more : List (List Shadow))
+pub thread_calls : (threads : List SymbolicThread) (t : ℕ) (F : List (List Symbolic) → List (List Symbolic)) (ks : List Symbolic) (more : List (List Symbolic))
     → (slice_index_or threads t no_thread).calls ≡ ks ∷ more → (slice_index_or (on_thread F t threads) t no_thread).calls ≡ F (ks ∷ more)
 thread_calls [] t F ks more h = absurd cc
 thread_calls (x ∷ xs) zero F ks more h = ap F h
 thread_calls (x ∷ xs) (suc t) F ks more h = thread_calls xs t F ks more h
 
-module _ (R : Reference) (d : Taken) (n : ℕ) (m : Moment) (s : RunShadow) (x : Instr) (instr : instr_in R.program m ≡ Some x)
+module _ (R : Reference) (d : Taken) (n : ℕ) (m : Moment) (s : SymbolicState) (x : Instr) (instr : instr_in R.program m ≡ Some x)
     (live : is_live d.pinned (thread_of s (thread_in m)).extents ≡ true) where
   abbrev region : Option FreeRegion
   region = region_of R.program R.regions m (instr_in R.program m)
@@ -50,7 +50,7 @@ module _ (R : Reference) (d : Taken) (n : ℕ) (m : Moment) (s : RunShadow) (x :
 
   -- the calls after it
   pub calls_after : (thread_of (after_step R d n m s) (thread_in m)).calls ≡ (thread_of (live_by R.program d n m region x m.did.did.kind s) (thread_in m)).calls
-  calls_after = ap (λ (z : RunShadow). (thread_of z (thread_in m)).calls) after_live ∙ extents_leave (live_by R.program d n m region x m.did.did.kind s).threads (thread_in m) _
+  calls_after = ap (λ (z : SymbolicState). (thread_of z (thread_in m)).calls) after_live ∙ extents_leave (live_by R.program d n m region x m.did.did.kind s).threads (thread_in m) _
 
   live_inner : (k : StepKind) → IsInnerKind k → live_by R.program d n m region x k s ≡ record s {
     threads = on_thread (after_op R.program (d.pinned n) n m region (result_in k) x x.op) (thread_in m) s.threads;
@@ -62,10 +62,10 @@ module _ (R : Reference) (d : Taken) (n : ℕ) (m : Moment) (s : RunShadow) (x :
   live_inner (kinds.Access a) h = absurd h
   live_inner (kinds.Event e) h = absurd h
 
-  module _ (ks : List Shadow) (more : List (List Shadow)) (calls : (thread_of s (thread_in m)).calls ≡ ks ∷ more) where
+  module _ (ks : List Symbolic) (more : List (List Symbolic)) (calls : (thread_of s (thread_in m)).calls ≡ ks ∷ more) where
     pub inner_calls : IsInnerKind m.did.did.kind → (thread_of (after_step R d n m s) (thread_in m)).calls
         ≡ after_op R.program (d.pinned n) n m region (result_in m.did.did.kind) x x.op (ks ∷ more)
-    inner_calls h = calls_after ∙ ap (λ (z : RunShadow). (thread_of z (thread_in m)).calls) (live_inner m.did.did.kind h)
+    inner_calls h = calls_after ∙ ap (λ (z : SymbolicState). (thread_of z (thread_in m)).calls) (live_inner m.did.did.kind h)
         ∙ thread_calls s.threads (thread_in m) (after_op R.program (d.pinned n) n m region (result_in m.did.did.kind) x x.op) ks more calls
 
     pub access_calls : (a : Access) → m.did.did.kind ≡ kinds.Access a
@@ -78,13 +78,13 @@ module _ (R : Reference) (d : Taken) (n : ℕ) (m : Moment) (s : RunShadow) (x :
     event_calls e k = calls_after ∙ ap (λ (z : StepKind). (thread_of (live_by R.program d n m region x z s) (thread_in m)).calls) k
         ∙ by_kind e.kind (after_event R.program m e e.kind (slice_index_or s.words (thread_in m) unset) x)
       where
-        created : (threads extra : List ThreadShadow) (t : ℕ) (F : List (List Shadow) → List (List Shadow)) → (slice_index_or threads t no_thread).calls ≡ ks ∷ more
+        created : (threads extra : List SymbolicThread) (t : ℕ) (F : List (List Symbolic) → List (List Symbolic)) → (slice_index_or threads t no_thread).calls ≡ ks ∷ more
             → (slice_index_or (on_thread F t threads ++ extra) t no_thread).calls ≡ F (ks ∷ more)
         created [] extra t F h = absurd cc
         created (x ∷ xs) extra zero F h = ap F h
         created (x ∷ xs) extra (suc t) F h = created xs extra t F h
 
-        by_kind : (k : TurnKind) (F : List (List Shadow) → List (List Shadow))
+        by_kind : (k : TurnKind) (F : List (List Symbolic) → List (List Symbolic))
             → (slice_index_or (threads_after R.program e k (on_thread F (thread_in m) s.threads)) (thread_in m) no_thread).calls ≡ F (ks ∷ more)
         by_kind turns.Create F = created s.threads (fresh_thread R.program (Rattle.std.specs.Prelude.slice_index e.operands 2) ∷ []) (thread_in m) F calls
         by_kind k F = thread_calls s.threads (thread_in m) F ks more calls

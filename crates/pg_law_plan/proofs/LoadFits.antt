@@ -31,10 +31,10 @@ use Rattle.pg_law_effects.specs.Meets.{is_in_range}
 use Rattle.pg_law_effects.specs.Views.{Objects, cell_at, cell_written, is_thread, objects_of, objects_with, word_in}
 use Rattle.pg_law_effects.specs.Views as views
 use Rattle.pg_law_effects.proofs.StepViews.{leads_to}
-use Rattle.pg_slice_rules.specs.Known.{RunShadow, Taken, after_access, load_of, thread_of}
+use Rattle.pg_slice_rules.specs.Known.{SymbolicState, Taken, after_access, load_of, thread_of}
 use Rattle.pg_slice_rules.specs.Moments.{thread_in}
 use Rattle.pg_slice_rules.specs.Rules.{kind_in}
-use Rattle.pg_slice_rules.specs.Shadows.{cut, loaded}
+use Rattle.pg_slice_rules.specs.SymbolicValues.{cut, loaded}
 use Rattle.pg_law_plan.specs.Likes.{AreCallsLike, IsCellLike, IsLike, like}
 use Rattle.pg_law_plan.specs.Moves.{deed_moved}
 use Rattle.pg_law_plan.specs.Units.{PlanUnit, ReferenceRun, cell_known, deed_of, is_event_at, range_touched, reads_cell, reference_of, writes_cell}
@@ -122,7 +122,7 @@ module _ (r : ReferenceRun) (d : Taken) (input : List ℤ) (program : IsProgram 
 
     pub known_calls : (a : Access' r d input u st moves y q good) → (thread_of u.known (thread_in u.seen.moment)).calls
         ≡ after_access r.program (d.exact u.seen.number) u.seen.number (told_access r d input u st moves y q good a) u.seen.before.bytes q.both.x q.both.x.op q.both.ks ∷ q.both.more
-    known_calls a = ap (λ (z : RunShadow). (thread_of z (thread_in u.seen.moment)).calls) q.unit.known
+    known_calls a = ap (λ (z : SymbolicState). (thread_of z (thread_in u.seen.moment)).calls) q.unit.known
         ∙ access_calls (reference_of r) d u.seen.number u.seen.moment u.seen.before q.both.x (instr_is r d input u st moves y q)
         (live_is r d input u st moves y q) q.both.ks q.both.more q.both.calls (told_access r d input u st moves y q good a) a.kind0
 

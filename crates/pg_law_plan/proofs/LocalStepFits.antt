@@ -34,10 +34,10 @@ use Rattle.pg_law_effects.specs.Views.{LeadsTo, Objects, cell_written, is_thread
 use Rattle.pg_law_effects.specs.Views as views
 use Rattle.pg_law_effects.proofs.StepViews.{leads_to}
 use Rattle.pg_slice_rules.specs.Extents.{is_live}
-use Rattle.pg_slice_rules.specs.Known.{RunShadow, Taken, after_op, region_of, result_in, thread_of}
+use Rattle.pg_slice_rules.specs.Known.{SymbolicState, Taken, after_op, region_of, result_in, thread_of}
 use Rattle.pg_slice_rules.specs.Moments.{instr_in, thread_in}
 use Rattle.pg_slice_rules.specs.Rules.{kind_in}
-use Rattle.pg_slice_rules.specs.Shadows.{Shadow}
+use Rattle.pg_slice_rules.specs.SymbolicValues.{Symbolic}
 use Rattle.pg_law_plan.specs.Likes.{AreCallsLike, StandLike, like}
 use Rattle.pg_law_plan.specs.Moves.{deed_moved}
 use Rattle.pg_law_plan.specs.Units.{PlanUnit, ReferenceRun, access_touch, cell_known, deed_of, instance_touch, is_event_at, is_instance, is_written_in, reference_of, standing_of, touch_of}
@@ -256,7 +256,7 @@ module _ (r : ReferenceRun) (d : Taken) (input : List ℤ) (u : PlanUnit) (st : 
   abbrev pub SameHeap : Type 0
   SameHeap = heap_after r.program (own_memory l) q.both.f.registers q.both.x.op ≡ heap_after r.program (own_memory l0) q.both.f0.registers q.both.x.op
 
-  pub stands : (known : List (List Shadow)) → (thread_of u.known (thread_in u.seen.moment)).calls ≡ known → SameHeap →
+  pub stands : (known : List (List Symbolic)) → (thread_of u.known (thread_in u.seen.moment)).calls ≡ known → SameHeap →
       AreCallsLike input (op_after r.program l0 q.both.x answer0 q.both.x.op) known (op_after r.program l q.both.x answer q.both.x.op) →
       (like input).local (deed_of d u).to (deed_moved r.program input st moves y).to
   stands known e heap c = record {
@@ -303,7 +303,7 @@ module _ (r : ReferenceRun) (d : Taken) (input : List ℤ) (u : PlanUnit) (st : 
     unfolding effect_of
     e_request = ap (λ (v : ℕ). request_effect r.program st v (next_of r.program st v)) q.own ∙ untouched.request
 
-    abbrev pub inner_known : List (List Shadow)
+    abbrev pub inner_known : List (List Symbolic)
     inner_known = after_op r.program (d.pinned u.seen.number) u.seen.number u.seen.moment (region_of r.program r.regions u.seen.moment (instr_in r.program u.seen.moment))
         (result_in (kind_in u.seen)) q.both.x q.both.x.op (q.both.ks ∷ q.both.more)
 
@@ -311,7 +311,7 @@ module _ (r : ReferenceRun) (d : Taken) (input : List ℤ) (u : PlanUnit) (st : 
         → Fits (like input) (deed_of d u) (deed_moved r.program input st moves y)
     inner_fits heap c = record {
       thread = q.own;
-      to = stands inner_known (ap (λ (z : RunShadow). (thread_of z (thread_in u.seen.moment)).calls) q.unit.known
+      to = stands inner_known (ap (λ (z : SymbolicState). (thread_of z (thread_in u.seen.moment)).calls) q.unit.known
           ∙ inner_calls (reference_of r) d u.seen.number u.seen.moment u.seen.before q.both.x instr_is live_is q.both.ks q.both.more q.both.calls inner_kind0) heap c;
       told = record {
         thread = ap (λ (v : ℕ). record { 0 = v }) q.own;

@@ -27,7 +27,7 @@ use Rattle.pg_run.specs.State.{State}
 use Rattle.pg_run.proofs.Actions.{barrier_init_is, call_is, create_is, divided_is, edge_is, init_is, join_is, number_is, object_is, on_all_is, on_place_is, on_value_is, room_is, wait_is}
 use Rattle.pg_law_effects.specs.Views.{begun_in, local_at}
 use Rattle.pg_law_runs.specs.Deeds.{is_event_at, local_event}
-use Rattle.pg_slice_rules.specs.Shadows.{Shadow}
+use Rattle.pg_slice_rules.specs.SymbolicValues.{Symbolic}
 use Rattle.pg_law_plan.proofs.ThreadAtInstruction.{Here, running}
 use Rattle.pg_law_plan.proofs.LikeOperands.{depth_like}
 use Rattle.pg_law_plan.proofs.AlikeThreads.{Both}
@@ -123,7 +123,7 @@ module _ (gated : List InstrId) (p : NumberedProgram) (s : State) (t : ℕ) (h :
       ∙ ap (λ (i : ℕ). is_event_at gated i (next p (running t h f fs n))) id_is ∙ ap (is_event_at gated f.place) next_is
       ∙ op_so gated f.place p (own_memory (running t h f fs n)) h f.registers (length (f ∷ fs)) (total (f ∷ fs)) x.block.0 x.op can
 
-module _ (gated : List InstrId) (p : NumberedProgram) (input : List ℤ) (t : ℕ) (s0 s : State) (known : List (List Shadow)) (b : Both p input t s0 s known)
+module _ (gated : List InstrId) (p : NumberedProgram) (input : List ℤ) (t : ℕ) (s0 s : State) (known : List (List Symbolic)) (b : Both p input t s0 s known)
     (can0 : CanStep (op_action p (own_memory (running t b.h b.f0 b.fs0 b.n)) b.h b.f0.registers (length (b.f0 ∷ b.fs0)) (total (b.f0 ∷ b.fs0)) b.x.block.0 b.x.op))
     (can : CanStep (op_action p (own_memory (running t b.h b.f b.fs b.n)) b.h b.f.registers (length (b.f ∷ b.fs)) (total (b.f ∷ b.fs)) b.x.block.0 b.x.op)) where
   pub events_alike : local_event gated p (local_at s t) ≡ local_event gated p (local_at s0 t)

@@ -30,10 +30,10 @@ use Rattle.pg_run.specs.State.{State, next_of}
 use Rattle.pg_law_effects.specs.Effect.{Effect, MadeThread, RequestEffect, answer_to, effect_of, request_effect}
 use Rattle.pg_law_effects.specs.Views.{Objects, cell_written, objects_of, objects_with, word_in, word_made}
 use Rattle.pg_law_effects.specs.Views as views
-use Rattle.pg_slice_rules.specs.Known.{RunShadow, Taken, after_event, set_shadow, thread_of, with_top}
+use Rattle.pg_slice_rules.specs.Known.{SymbolicState, Taken, after_event, set_symbolic, thread_of, with_top}
 use Rattle.pg_slice_rules.specs.Moments.{thread_in}
 use Rattle.pg_slice_rules.specs.Rules.{checked, kind_in}
-use Rattle.pg_slice_rules.specs.Shadows.{always, unset}
+use Rattle.pg_slice_rules.specs.SymbolicValues.{always, unset}
 use Rattle.pg_law_plan.specs.Likes.{AreCallsLike, IsToldLike, like}
 use Rattle.pg_law_plan.specs.Moves.{deed_moved}
 use Rattle.pg_law_plan.specs.Units.{PlanUnit, ReferenceRun, cell_known, deed_of, event_word_read, event_word_written, is_event_at, reads_cell, reference_of, word_written, writes_cell}
@@ -143,7 +143,7 @@ module _ (r : ReferenceRun) (d : Taken) (input : List ℤ) (program : IsProgram 
 
     pub event_known : (thread_of u.known (thread_in u.seen.moment)).calls
         ≡ after_event r.program u.seen.moment event0 (kind_of r0) (slice_index_or u.seen.before.words (thread_in u.seen.moment) unset) q.both.x (q.both.ks ∷ q.both.more)
-    event_known = ap (λ (z : RunShadow). (thread_of z (thread_in u.seen.moment)).calls) q.unit.known
+    event_known = ap (λ (z : SymbolicState). (thread_of z (thread_in u.seen.moment)).calls) q.unit.known
         ∙ event_calls (reference_of r) d u.seen.number u.seen.moment u.seen.before q.both.x (instr_is r d input u st moves y q)
         (live_is r d input u st moves y q) q.both.ks q.both.more q.both.calls event0 (kind0_is r0 act0)
 
@@ -186,12 +186,12 @@ module _ (r : ReferenceRun) (d : Taken) (input : List ℤ) (program : IsProgram 
       ∙ ap (λ (o : Option ℕ). if nat_lt c MEMORY_BYTES then None else o) (either_none (ef.thread == (c - MEMORY_BYTES))) ∙ either_none (nat_lt c MEMORY_BYTES) in
       record {
         thread = q.own;
-        to = stands r d input u st moves y q (if s0.goes then with_top (set_shadow b.x.result (always reply0)) (b.ks ∷ b.more) else (b.ks ∷ b.more))
-            (event_known r0 r1 act0 act same ∙ s0.shadows p u.seen.moment (event0 r0 r1 act0 act same) (slice_index_or u.seen.before.words t unset) b.x (b.ks ∷ b.more))
+        to = stands r d input u st moves y q (if s0.goes then with_top (set_symbolic b.x.result (always reply0)) (b.ks ∷ b.more) else (b.ks ∷ b.more))
+            (event_known r0 r1 act0 act same ∙ s0.symbolics p u.seen.moment (event0 r0 r1 act0 act same) (slice_index_or u.seen.before.words t unset) b.x (b.ks ∷ b.more))
             (subst (λ (z : Op). heap_after p (own_memory l) b.f.registers z ≡ heap_after p (own_memory l0) b.f0.registers z) (sym e)
             (s0.heap (own_memory l) (number_at p b.f.registers args 0) ∙ sym (s0.heap (own_memory l0) (number_at p b.f0.registers args 0))))
             (subst (λ (z : Op). AreCallsLike input (op_after p l0 b.x (answer0 r d input u st moves y q) z)
-            (if s0.goes then with_top (set_shadow b.x.result (always (or_zero b.x.result (op_own p l0 b.f0.registers (answer0 r d input u st moves y q) z)))) (b.ks ∷ b.more) else
+            (if s0.goes then with_top (set_symbolic b.x.result (always (or_zero b.x.result (op_own p l0 b.f0.registers (answer0 r d input u st moves y q) z)))) (b.ks ∷ b.more) else
             (b.ks ∷ b.more)) (op_after p l b.x (answer r d input u st moves y q) z)) (sym e)
             (calls_like alike s0));
         told = event_told_alike r0 r1 act0 act same (ap (reply_of (kind_of r0)) (same_reply alike s0 s0.goes refl));
@@ -204,7 +204,7 @@ module _ (r : ReferenceRun) (d : Taken) (input : List ℤ) (program : IsProgram 
     where
       calls_like : answer r d input u st moves y q ≡ answer0 r d input u st moves y q → (s : Shape k q.both.h r0) →
           AreCallsLike input (op_after r.program l0 q.both.x (answer0 r d input u st moves y q) (op.CallLibrary k args))
-          (if s.goes then with_top (set_shadow q.both.x.result
+          (if s.goes then with_top (set_symbolic q.both.x.result
           (always (or_zero q.both.x.result (op_own r.program l0 q.both.f0.registers (answer0 r d input u st moves y q) (op.CallLibrary k args))))) (q.both.ks ∷ q.both.more) else
           (q.both.ks ∷ q.both.more)) (op_after r.program l q.both.x (answer r d input u st moves y q) (op.CallLibrary k args))
       calls_like alike s = rw (
@@ -217,7 +217,7 @@ module _ (r : ReferenceRun) (d : Taken) (input : List ℤ) (program : IsProgram 
           go : (g : Bool) → s.goes ≡ g
               → AreCallsLike input (if g then stepped q.both.f0 q.both.x.result
               (result_number r.program (own_memory l0) q.both.f0.registers (op.CallLibrary k args) (answer0 r d input u st moves y q)) ∷ q.both.fs0 else (q.both.f0 ∷ q.both.fs0))
-              (if g then with_top (set_shadow q.both.x.result
+              (if g then with_top (set_symbolic q.both.x.result
               (always (or_zero q.both.x.result (op_own r.program l0 q.both.f0.registers (answer0 r d input u st moves y q) (op.CallLibrary k args))))) (q.both.ks ∷ q.both.more) else
               (q.both.ks ∷ q.both.more)) (if g then stepped q.both.f q.both.x.result
               (result_number r.program (own_memory l) q.both.f.registers (op.CallLibrary k args) (answer r d input u st moves y q)) ∷ q.both.fs else (q.both.f ∷ q.both.fs))

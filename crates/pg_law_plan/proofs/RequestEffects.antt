@@ -25,10 +25,10 @@ use Rattle.pg_run.specs.MachineStep.{answer_of, write_told}
 use Rattle.pg_run.specs.State.{State}
 use Rattle.pg_run.proofs.Actions.{barrier_init_is, init_is, object_is, wait_is}
 use Rattle.pg_law_effects.specs.Effect.{request_write, thread_made, word_asked, word_left}
-use Rattle.pg_slice_rules.specs.Known.{after_event, set_shadow, with_top}
+use Rattle.pg_slice_rules.specs.Known.{after_event, set_symbolic, with_top}
 use Rattle.pg_slice_rules.specs.Moments.{Moment}
 use Rattle.pg_slice_rules.specs.Rules.{checked_of, equal_to, event_needs}
-use Rattle.pg_slice_rules.specs.Shadows.{Shadow, always}
+use Rattle.pg_slice_rules.specs.SymbolicValues.{Symbolic, always}
 use Rattle.pg_law_plan.specs.Units.{event_word_read, event_word_written}
 
 abbrev pub is_start : TurnKind → Bool
@@ -39,8 +39,8 @@ is_start k = false
 pub record Shape (k : LibraryCall) (h : Bool) (r : Request) : Type 0 where
   pub goes : Bool
   pub frames : (fs next_fs : List Frame) → library_after h k fs next_fs ≡ (if goes then next_fs else fs)
-  pub shadows : (p : NumberedProgram) (m : Moment) (e : Event) (argument : Shadow) (x : Instr) (calls : List (List Shadow))
-      → after_event p m e (kind_of r) argument x calls ≡ (if goes then with_top (set_shadow x.result (always e.reply)) calls else calls)
+  pub symbolics : (p : NumberedProgram) (m : Moment) (e : Event) (argument : Symbolic) (x : Instr) (calls : List (List Symbolic))
+      → after_event p m e (kind_of r) argument x calls ≡ (if goes then with_top (set_symbolic x.result (always e.reply)) calls else calls)
   pub own : goes ≡ true → (n : ℕ) → library_own h k n ≡ n
   pub number : (z : ThreadMemory) (n a : ℕ) → library_number z k n a ≡ cut_to (returned_by k) a
   pub heap : (z : ThreadMemory) (n : ℕ) → library_heap z k n ≡ z.heap
@@ -55,17 +55,17 @@ pub record Shape (k : LibraryCall) (h : Bool) (r : Request) : Type 0 where
   pub written : (t : ℕ) (e : Event) → event_word_written t e (kind_of r) ≡ None
 
 abbrev a_shape : (k : LibraryCall) (h : Bool) (r : Request) (goes : Bool) → ((fs next_fs : List Frame) → library_after h k fs next_fs ≡ (if goes then next_fs else fs))
-    → ((p : NumberedProgram) (m : Moment) (e : Event) (argument : Shadow) (x : Instr) (calls : List (List Shadow))
-    → after_event p m e (kind_of r) argument x calls ≡ (if goes then with_top (set_shadow x.result (always e.reply)) calls else calls))
+    → ((p : NumberedProgram) (m : Moment) (e : Event) (argument : Symbolic) (x : Instr) (calls : List (List Symbolic))
+    → after_event p m e (kind_of r) argument x calls ≡ (if goes then with_top (set_symbolic x.result (always e.reply)) calls else calls))
     → (goes ≡ true → (n : ℕ) → library_own h k n ≡ n) → ((z : ThreadMemory) (n a : ℕ) → library_number z k n a ≡ cut_to (returned_by k) a)
     → ((z : ThreadMemory) (n : ℕ) → library_heap z k n ≡ z.heap) → is_start (kind_of r) ≡ false
     → ((s : State) (t : ℕ) (reply : Reply) → answer_of s t reply r ≡ reply.value) → ((s : State) (ns : List ℕ) → write_told s ns r ≡ None)
     → ((s : State) → request_write s r ≡ None) → word_left r ≡ None → ((p : NumberedProgram) (s : State) → thread_made p s r ≡ None) → ((t : ℕ) → word_asked t r ≡ None)
     → ((t : ℕ) (e : Event) → e.write ≡ None → event_word_read t e (kind_of r) ≡ None) → ((t : ℕ) (e : Event) → event_word_written t e (kind_of r) ≡ None) → Shape k h r
-a_shape k h r goes frames shadows own number heap start answer told write word made asked read written = record {
+a_shape k h r goes frames symbolics own number heap start answer told write word made asked read written = record {
   goes = goes;
   frames = frames;
-  shadows = shadows;
+  symbolics = symbolics;
   own = own;
   number = number;
   heap = heap;

@@ -16,7 +16,7 @@ use Rattle.pg_run.specs.State.{State, initial}
 use Rattle.pg_law_effects.specs.Effect.{effect, effect_of}
 use Rattle.pg_law_effects.specs.PermittedSteps.{none_taken, one_more}
 use Rattle.pg_law_runs.proofs.DeedDependence.{some_turn}
-use Rattle.pg_slice_rules.specs.Known.{RunShadow, Taken, seen_from, start_of}
+use Rattle.pg_slice_rules.specs.Known.{SymbolicState, Taken, seen_from, start_of}
 use Rattle.pg_slice_rules.specs.Moments.{moments_from, thread_in}
 use Rattle.pg_law_runs.specs.Answered.{Answered, answered, answers}
 use Rattle.pg_law_plan.specs.Likes.{like}
@@ -83,7 +83,7 @@ module _ (r : ReferenceRun) (d : Taken) where
           ∙ each (is_event_at m.seen) (deed_of d u) later refl (more (one_more (thread_in m.seen.moment) counts))
       go false e more = more counts ∙ sym (ap (λ (b : Bool). cond b (answered m.seen.moment.did.did ∷ met_answers ms) (met_answers ms)) (h.0.plain e))
 
-  step_answers : (T : List ℕ) (k n : ℕ) (known : RunShadow) (s : State) (xs : List Step)
+  step_answers : (T : List ℕ) (k n : ℕ) (known : SymbolicState) (s : State) (xs : List Step)
       → met_answers (met_with (seen_from (reference_of r) d n known (moments_from r.gated r.program r.input s (times recorded T k xs))) (states_from r s xs)) ≡ answers xs
   unfolding seen_from moments_from states_from
   step_answers T k n known s [] = refl

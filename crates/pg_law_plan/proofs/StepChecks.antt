@@ -10,7 +10,7 @@ use Rattle.pg_slice_rules.specs.Closed.{IsClosed, admits, conditions, conditions
 use Rattle.pg_slice_rules.specs.Known.{Reference, Seen, Taken, seen_in}
 use Rattle.pg_slice_rules.specs.Rules.{Condition, Need, Value, Bounds, all_of, asks_bounds, asks_pins, asks_values, conditions_with, bounds_needs, is_bound, need_blames, need_conditions}
 use Rattle.pg_slice_rules.specs.Rules.{value_needs, value_of}
-use Rattle.pg_slice_rules.specs.Shadows.{OnInput, Known, Bounded, Unknown, bounds_word}
+use Rattle.pg_slice_rules.specs.SymbolicValues.{OnInput, Known, Bounded, Unknown, bounds_word}
 use Rattle.pg_law_plan.proofs.UnitsArePlan.{append_none, none_asked, not_asked}
 
 -- what is asked of a value holds on the input

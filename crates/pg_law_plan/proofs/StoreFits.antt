@@ -30,10 +30,10 @@ use Rattle.pg_law_effects.specs.Meets.{byte_in}
 use Rattle.pg_law_effects.specs.Views.{cell_written, objects_of, word_in}
 use Rattle.pg_slice_rules.specs.declared.decision.Decision.TheVariants.{Exact}
 use Rattle.pg_slice_rules.specs.Freeable.{bounds_of}
-use Rattle.pg_slice_rules.specs.Known.{RunShadow, Taken, after_access, bytes_stored, live_by, region_of, registers_of}
+use Rattle.pg_slice_rules.specs.Known.{SymbolicState, Taken, after_access, bytes_stored, live_by, region_of, registers_of}
 use Rattle.pg_slice_rules.specs.Moments.{instr_in, thread_in}
 use Rattle.pg_slice_rules.specs.Rules.{address_index, kind_in}
-use Rattle.pg_slice_rules.specs.Shadows.{Shadow, Unknown, byte_in as byte_shadow, shadow_of, stored}
+use Rattle.pg_slice_rules.specs.SymbolicValues.{Symbolic, Unknown, byte_in as byte_symbolic, symbolic_of, stored}
 use Rattle.pg_law_plan.specs.Likes.{AreCallsLike, IsCellLike, IsLike, like}
 use Rattle.pg_law_plan.specs.Moves.{deed_moved}
 use Rattle.pg_law_plan.specs.Units.{PlanUnit, ReferenceRun, cell_known, deed_of, is_event_at, range_touched, reference_of, writes_cell}
@@ -71,17 +71,17 @@ module _ (r : ReferenceRun) (d : Taken) (input : List ℤ) (program : IsProgram 
     -- what is known of bytes behind the unit
     known_bytes : u.known.bytes ≡ bytes_stored r.program is_fixed u.seen.number t q.both.ks (op.Store w v at) u.seen.before.bytes
     known_bytes =
-        ap (λ (z : RunShadow). z.bytes) (q.unit.known
+        ap (λ (z : SymbolicState). z.bytes) (q.unit.known
         ∙ after_live (reference_of r) d u.seen.number u.seen.moment u.seen.before q.both.x (instr_is r d input u st moves y q) (live_is r d input u st moves y q))
         ∙ ap (λ (k : StepKind). (live_by r.program d u.seen.number u.seen.moment
         (region_of r.program r.regions u.seen.moment (instr_in r.program u.seen.moment)) q.both.x k u.seen.before).bytes) a.kind0
         ∙ ap (λ (b : Bool). bytes_stored r.program b u.seen.number t (registers_of u.seen.before (thread_in u.seen.moment)) q.both.x.op u.seen.before.bytes)
         (or_turn (d.exact u.seen.number) a.event)
-        ∙ ap (λ (ks : List Shadow). bytes_stored r.program is_fixed u.seen.number t ks q.both.x.op u.seen.before.bytes) (top_known r d input u st moves y q)
+        ∙ ap (λ (ks : List Symbolic). bytes_stored r.program is_fixed u.seen.number t ks q.both.x.op u.seen.before.bytes) (top_known r d input u st moves y q)
         ∙ ap (λ (z : Op). bytes_stored r.program is_fixed u.seen.number t q.both.ks z u.seen.before.bytes) e
 
-    value_like : IsLike input (shadow_of r.program q.both.ks v) (Some n)
-    value_like = subst (λ (o : Option ℕ). IsLike input (shadow_of r.program q.both.ks v) o) value (operand_like input r.program q.both.ks q.both.f.registers q.both.top.registers v)
+    value_like : IsLike input (symbolic_of r.program q.both.ks v) (Some n)
+    value_like = subst (λ (o : Option ℕ). IsLike input (symbolic_of r.program q.both.ks v) o) value (operand_like input r.program q.both.ks q.both.f.registers q.both.top.registers v)
 
     -- the cells that the machine writes
     written_is : (c : ℕ) → cell_written ef c ≡ (if nat_lt c MEMORY_BYTES then (if is_in a.q1 c then Some (byte_of n (c - a.q1.start)) else None) else None)
@@ -96,8 +96,8 @@ module _ (r : ReferenceRun) (d : Taken) (input : List ℤ) (program : IsProgram 
     -- a byte that is known behind the unit
     byte_like : (c : ℕ) → nat_lt c MEMORY_BYTES ≡ true → is_in (range_touched is_fixed t) c ≡ true → (m : ℕ)
         → IsLike input (cell_known u.known c) (Some (or_old (if is_in a.q1 c then Some (byte_of n (c - a.q1.start)) else None) m))
-    byte_like c lt i m = subst (λ (s : Shadow). IsLike input s (Some (or_old (if is_in a.q1 c then Some (byte_of n (c - a.q1.start)) else None) m)))
-        (sym (in_memory (nat_lt c MEMORY_BYTES) refl lt ∙ ap (λ (f : ℕ → Shadow). f c) known_bytes)) (go is_fixed refl i)
+    byte_like c lt i m = subst (λ (s : Symbolic). IsLike input s (Some (or_old (if is_in a.q1 c then Some (byte_of n (c - a.q1.start)) else None) m)))
+        (sym (in_memory (nat_lt c MEMORY_BYTES) refl lt ∙ ap (λ (f : ℕ → Symbolic). f c) known_bytes)) (go is_fixed refl i)
       where
         in_memory : (b : Bool) → nat_lt c MEMORY_BYTES ≡ b → b ≡ true → cell_known u.known c ≡ u.known.bytes c
         in_memory b k h = rw (k ∙ h) refl
@@ -107,12 +107,12 @@ module _ (r : ReferenceRun) (d : Taken) (input : List ℤ) (program : IsProgram 
             (Some (or_old (if is_in a.q1 c then Some (byte_of n (c - a.q1.start)) else None) m))
         go true f i =
             let range = same_range r d input u st moves y q good a f in
-            subst (λ (z : ByteRange). IsLike input (stored (range_of t) (shadow_of r.program q.both.ks v) u.seen.before.bytes c)
+            subst (λ (z : ByteRange). IsLike input (stored (range_of t) (symbolic_of r.program q.both.ks v) u.seen.before.bytes c)
             (Some (or_old (if is_in z c then Some (byte_of n (c - z.start)) else None) m))) (sym range)
-            (here (is_in (range_of t) c) i (cut_like input (λ k. byte_of k (c - (range_of t).start)) (shadow_of r.program q.both.ks v) n value_like))
+            (here (is_in (range_of t) c) i (cut_like input (λ k. byte_of k (c - (range_of t).start)) (symbolic_of r.program q.both.ks v) n value_like))
           where
-            here : (b : Bool) → b ≡ true → IsLike input (byte_shadow (c - (range_of t).start) (shadow_of r.program q.both.ks v)) (Some (byte_of n (c - (range_of t).start))) →
-                IsLike input (if b then byte_shadow (c - (range_of t).start) (shadow_of r.program q.both.ks v) else u.seen.before.bytes c)
+            here : (b : Bool) → b ≡ true → IsLike input (byte_symbolic (c - (range_of t).start) (symbolic_of r.program q.both.ks v)) (Some (byte_of n (c - (range_of t).start))) →
+                IsLike input (if b then byte_symbolic (c - (range_of t).start) (symbolic_of r.program q.both.ks v) else u.seen.before.bytes c)
                 (Some (or_old (if b then Some (byte_of n (c - (range_of t).start)) else None) m))
             here true h k = k
             here false h k = absurd (true≢false (sym h))
@@ -123,7 +123,7 @@ module _ (r : ReferenceRun) (d : Taken) (input : List ℤ) (program : IsProgram 
             here true h = tt
             here false h = absurd (true≢false (sym h))
 
-    cell_like : (c : ℕ) (s : Shadow) (m : ℕ) → IsCellLike input s m
+    cell_like : (c : ℕ) (s : Symbolic) (m : ℕ) → IsCellLike input s m
         → IsCellLike input (or_old (if writes_cell d u.seen c then Some (cell_known u.known c) else None) s) (or_old (cell_written ef c) m)
     cell_like c s m k = rw (unit_writes c, written_is c) (go (nat_lt c MEMORY_BYTES) refl (is_in (range_touched is_fixed t) c) refl)
       where
@@ -188,7 +188,7 @@ module _ (r : ReferenceRun) (d : Taken) (input : List ℤ) (program : IsProgram 
       writes = λ c k. some_if (writes_cell d u.seen c) (cell_known u.known c) (written_in c k);
     }
       where
-        some_if : (b : Bool) (x : Shadow) → b ≡ true → is_some (if b then Some x else None) ≡ true
+        some_if : (b : Bool) (x : Symbolic) → b ≡ true → is_some (if b then Some x else None) ≡ true
         some_if true x h = refl
         some_if false x h = h
 

@@ -21,9 +21,9 @@ use Rattle.pg_run_trace.specs.declared.step.Step.{Step}
 use Rattle.pg_run.specs.State.{State, next_of}
 use Rattle.pg_run.proofs.StepsBegin.{ready_made}
 use Rattle.pg_law_effects.specs.Views.{cell_written, objects_of}
-use Rattle.pg_slice_rules.specs.Known.{RunShadow, Taken, bytes_by, exit_shadow, live_by, low_byte, operand_at, region_of, registers_of, set_shadow, thread_of, words_after}
+use Rattle.pg_slice_rules.specs.Known.{SymbolicState, Taken, bytes_by, exit_symbolic, live_by, low_byte, operand_at, region_of, registers_of, set_symbolic, thread_of, words_after}
 use Rattle.pg_slice_rules.specs.Moments.{thread_in}
-use Rattle.pg_slice_rules.specs.Shadows.{Shadow, always}
+use Rattle.pg_slice_rules.specs.SymbolicValues.{Symbolic, always}
 use Rattle.pg_law_plan.specs.Likes.{IsCellLike, IsLike, like}
 use Rattle.pg_law_plan.specs.Moves.{deed_moved}
 use Rattle.pg_law_plan.specs.Units.{PlanUnit, ReferenceRun, cell_known, deed_of, is_event_at, reference_of, writes_cell}
@@ -73,18 +73,18 @@ module _ (r : ReferenceRun) (d : Taken) (input : List ℤ) (program : IsProgram 
 
   module _ (n0 n1 : ℕ) (b : Bool) (act0 : next_of r.program u.state (thread_in u.seen.moment) ≡ actions.Event (requests.Exit n0 b))
       (act : next_of r.program st (thread_in u.seen.moment) ≡ actions.Event (requests.Exit n1 b))
-      (value : IsLike input (exit_shadow r.program (thread_in u.seen.moment) q.both.ks q.both.x.op) (Some n1)) where
+      (value : IsLike input (exit_symbolic r.program (thread_in u.seen.moment) q.both.ks q.both.x.op) (Some n1)) where
     word_like : (c : ℕ) → nat_lt c MEMORY_BYTES ≡ false → (thread_in u.seen.moment == (c - MEMORY_BYTES)) ≡ true → IsLike input (cell_known u.known c) (Some n1)
     word_like c lt e =
         let t = thread_in u.seen.moment in
-        subst (λ (s : Shadow). IsLike input s (Some n1))
+        subst (λ (s : Symbolic). IsLike input s (Some n1))
         (sym (ap (λ (z : Bool). if z then u.known.bytes c else slice_index_or u.known.words (c - MEMORY_BYTES) (always 0)) lt
-        ∙ ap (λ (ws : List Shadow). slice_index_or ws (c - MEMORY_BYTES) (always 0))
+        ∙ ap (λ (ws : List Symbolic). slice_index_or ws (c - MEMORY_BYTES) (always 0))
         (known_words r d input program u st moves y q good objects (requests.Exit n0 b) (requests.Exit n1 b) act0 act refl)
-        ∙ ap (λ (i : ℕ). slice_index_or (slice_set u.seen.before.words t (exit_shadow r.program t q.both.ks q.both.x.op)) i (always 0)) (sym (eqb-true t (c - MEMORY_BYTES) e))
-        ∙ word_set u.seen.before.words t (exit_shadow r.program t q.both.ks q.both.x.op) (always 0) own_word)) value
+        ∙ ap (λ (i : ℕ). slice_index_or (slice_set u.seen.before.words t (exit_symbolic r.program t q.both.ks q.both.x.op)) i (always 0)) (sym (eqb-true t (c - MEMORY_BYTES) e))
+        ∙ word_set u.seen.before.words t (exit_symbolic r.program t q.both.ks q.both.x.op) (always 0) own_word)) value
 
-    exit_cell : (c : ℕ) (s : Shadow) (m : ℕ) → IsCellLike input s m
+    exit_cell : (c : ℕ) (s : Symbolic) (m : ℕ) → IsCellLike input s m
         → IsCellLike input (or_old (if writes_cell d u.seen c then Some (cell_known u.known c) else None) s) (or_old (cell_written ef c) m)
     exit_cell c s m k = rw (
       wc_is r d input program u st moves y q good objects (requests.Exit n0 b) (requests.Exit n1 b) act0 act refl c,
@@ -123,7 +123,7 @@ module _ (r : ReferenceRun) (d : Taken) (input : List ℤ) (program : IsProgram 
       let x0 = returning_exit p b.f0.registers (length (b.f0 ∷ b.fs0)) v deep (can0_at r d input u st moves y q (op.Ret v) e) in
       let x = returning_exit p b.f.registers (length (b.f ∷ b.fs)) v deep' (can_at r d input u st moves y q (op.Ret v) e) in
       exit_fits x0.number x.number true (act0_at r d input u st moves y q (op.Ret v) e ∙ x0.is) (act_at r d input u st moves y q (op.Ret v) e ∙ x.is)
-      (subst (λ (z : Op). IsLike input (exit_shadow p (thread_in u.seen.moment) b.ks z) (Some x.number)) (sym e) (value v refl x.number x.none x.some))
+      (subst (λ (z : Op). IsLike input (exit_symbolic p (thread_in u.seen.moment) b.ks z) (Some x.number)) (sym e) (value v refl x.number x.none x.some))
       (ap (heap_after p (own_memory l) b.f.registers) e ∙ sym (ap (heap_after p (own_memory l0) b.f0.registers) e))
       (ap (op_after p l0 b.x (answer0 r d input u st moves y q)) e ∙ ap (λ (fs : List Frame). Rattle.pg_run_thread.specs.Step.returned p fs (number_at p b.f0.registers (operands_of (op.Ret v)) 0))
       (no_frames b.fs0 deep))
@@ -131,9 +131,9 @@ module _ (r : ReferenceRun) (d : Taken) (input : List ℤ) (program : IsProgram 
       (no_frames b.fs deep'))
     where
       value : (w : Option Value) → v ≡ w → (n : ℕ) → (v ≡ None → n ≡ 0) → ((z : Value) → v ≡ Some z → operand r.program q.both.f.registers z ≡ Some n)
-          → IsLike input (Rattle.pg_slice_rules.specs.Known.returned_shadow r.program q.both.ks v) (Some n)
+          → IsLike input (Rattle.pg_slice_rules.specs.Known.returned_symbolic r.program q.both.ks v) (Some n)
       value None k n none some = rw k (valued_like input (λ i. Some 0) (Some n) (ap Some (none k)))
-      value (Some z) k n none some = rw k (subst (λ (o : Option ℕ). IsLike input (Rattle.pg_slice_rules.specs.Shadows.shadow_of r.program q.both.ks z) o) (some z k)
+      value (Some z) k n none some = rw k (subst (λ (o : Option ℕ). IsLike input (Rattle.pg_slice_rules.specs.SymbolicValues.symbolic_of r.program q.both.ks z) o) (some z k)
           (operand_like input r.program q.both.ks q.both.f.registers q.both.top.registers z))
 
   pub pthread_exit_fits : (args : List Value) → q.both.x.op ≡ op.CallLibrary known.PthreadExit args → Fits (like input) (deed_of d u) (deed_moved r.program input st moves y)
@@ -147,7 +147,7 @@ module _ (r : ReferenceRun) (d : Taken) (input : List ℤ) (program : IsProgram 
       exit_fits (exit_value t v0.0) (exit_value t v.0) false
       (act0_at r d input u st moves y q o e ∙ on_some (argument p b.f0.registers args 0) v0.0 (λ n. actions.Event (requests.Exit (exit_value t n) false)) v0.1)
       (act_at r d input u st moves y q o e ∙ on_some (argument p b.f.registers args 0) v.0 (λ n. actions.Event (requests.Exit (exit_value t n) false)) v.1)
-      (subst (λ (z : Op). IsLike input (exit_shadow p t b.ks z) (Some (exit_value t v.0))) (sym e)
+      (subst (λ (z : Op). IsLike input (exit_symbolic p t b.ks z) (Some (exit_value t v.0))) (sym e)
       (value (t == 0) v.0 (subst (λ (m : Option ℕ). IsLike input (operand_at p b.ks o 0) m) v.1 (argument_like input p b.ks b.f.registers b.top.registers args 0))))
       (ap (heap_after p (own_memory l) b.f.registers) e ∙ sym (ap (heap_after p (own_memory l0) b.f0.registers) e))
       (ap (op_after p l0 b.x (answer0 r d input u st moves y q)) e) (ap (op_after p l b.x (answer r d input u st moves y q)) e)

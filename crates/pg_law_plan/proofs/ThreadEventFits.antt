@@ -36,10 +36,10 @@ use Rattle.pg_law_effects.specs.Effect.{Effect, MadeThread, RequestEffect, answe
 use Rattle.pg_law_effects.specs.Meets.{byte_in, is_in_range}
 use Rattle.pg_law_effects.specs.Views.{cell_at, cell_written, is_thread, objects_of, word_in, word_made}
 use Rattle.pg_law_effects.specs.Views as views
-use Rattle.pg_slice_rules.specs.Known.{RunShadow, Taken, bytes_by, exit_shadow, live_by, low_byte, operand_at, region_of, registers_of, set_shadow, thread_of, words_after}
+use Rattle.pg_slice_rules.specs.Known.{SymbolicState, Taken, bytes_by, exit_symbolic, live_by, low_byte, operand_at, region_of, registers_of, set_symbolic, thread_of, words_after}
 use Rattle.pg_slice_rules.specs.Moments.{instr_in, thread_in}
 use Rattle.pg_slice_rules.specs.Rules.{kind_in}
-use Rattle.pg_slice_rules.specs.Shadows.{Shadow, always}
+use Rattle.pg_slice_rules.specs.SymbolicValues.{Symbolic, always}
 use Rattle.pg_law_plan.specs.Likes.{AreCallsLike, IsCellLike, IsLike, like}
 use Rattle.pg_law_plan.specs.Moves.{deed_moved}
 use Rattle.pg_law_plan.specs.Units.{PlanUnit, ReferenceRun, access_touch, cell_known, deed_of, event_word_read, event_word_written, instance_touch, is_event_at, is_read_in, is_written_in}
@@ -96,16 +96,16 @@ module _ (r : ReferenceRun) (d : Taken) (input : List ℤ) (program : IsProgram 
 
     pub known_words : u.known.words ≡ words_after r.program (thread_in u.seen.moment) (kind_of r0) q.both.ks q.both.x.op u.seen.before.words
     known_words =
-        ap (λ (z : RunShadow). z.words) (q.unit.known
+        ap (λ (z : SymbolicState). z.words) (q.unit.known
         ∙ after_live (reference_of r) d u.seen.number u.seen.moment u.seen.before q.both.x (instr_is r d input u st moves y q) (live_is r d input u st moves y q))
         ∙ ap (λ (k : StepKind). (live_by r.program d u.seen.number u.seen.moment
         (region_of r.program r.regions u.seen.moment (instr_in r.program u.seen.moment)) q.both.x k u.seen.before).words) kind_event
-        ∙ ap (λ (ks : List Shadow). words_after r.program (thread_in u.seen.moment) (kind_of r0) ks q.both.x.op u.seen.before.words) (top_known r d input u st moves y q)
+        ∙ ap (λ (ks : List Symbolic). words_after r.program (thread_in u.seen.moment) (kind_of r0) ks q.both.x.op u.seen.before.words) (top_known r d input u st moves y q)
 
     pub known_bytes : u.known.bytes ≡ bytes_by ev (write_told u.state (Rattle.pg_law_plan.proofs.ObjectEventFits.numbers0 r d input program u st moves y q good objects) r0) u.seen.before.words
         u.seen.before.bytes
     known_bytes =
-        ap (λ (z : RunShadow). z.bytes) (q.unit.known
+        ap (λ (z : SymbolicState). z.bytes) (q.unit.known
         ∙ after_live (reference_of r) d u.seen.number u.seen.moment u.seen.before q.both.x (instr_is r d input u st moves y q) (live_is r d input u st moves y q))
         ∙ ap (λ (k : StepKind). (live_by r.program d u.seen.number u.seen.moment
         (region_of r.program r.regions u.seen.moment (instr_in r.program u.seen.moment)) q.both.x k u.seen.before).bytes) kind_event
@@ -152,11 +152,11 @@ module _ (r : ReferenceRun) (d : Taken) (input : List ℤ) (program : IsProgram 
 
     -- ---- put together
 
-    pub event_fits : (known : List (List Shadow)) → (thread_of u.known (thread_in u.seen.moment)).calls ≡ known →
+    pub event_fits : (known : List (List Symbolic)) → (thread_of u.known (thread_in u.seen.moment)).calls ≡ known →
         heap_after r.program (own_memory l) q.both.f.registers q.both.x.op ≡ heap_after r.program (own_memory l0) q.both.f0.registers q.both.x.op →
         AreCallsLike input (op_after r.program l0 q.both.x (answer0 r d input u st moves y q) q.both.x.op) known (op_after r.program l q.both.x (answer r d input u st moves y q) q.both.x.op) →
         reply_of (kind_of r0) (reply r d input program u st moves y q good objects) ≡ reply_of (kind_of r0) (reply0 r d input program u st moves y q good objects) →
-        ((c : ℕ) (s : Shadow) (m : ℕ) → IsCellLike input s m → IsCellLike input (or_old (if writes_cell d u.seen c then Some (cell_known u.known c) else None) s)
+        ((c : ℕ) (s : Symbolic) (m : ℕ) → IsCellLike input s m → IsCellLike input (or_old (if writes_cell d u.seen c then Some (cell_known u.known c) else None) s)
         (or_old (cell_written ef c) m)) →
         ((c : ℕ) → views.reads_cell ef c ≡ true → reads_cell d u.seen c ≡ true) → ((c : ℕ) → is_some (cell_written ef c) ≡ true → writes_cell d u.seen c ≡ true) →
         Fits (like input) (deed_of d u) (deed_moved r.program input st moves y)
@@ -170,14 +170,14 @@ module _ (r : ReferenceRun) (d : Taken) (input : List ℤ) (program : IsProgram 
       writes = λ c k. some_if (writes_cell d u.seen c) (cell_known u.known c) (writes c k);
     }
       where
-        some_if : (b : Bool) (x : Shadow) → b ≡ true → is_some (if b then Some x else None) ≡ true
+        some_if : (b : Bool) (x : Symbolic) → b ≡ true → is_some (if b then Some x else None) ≡ true
         some_if true x h = refl
         some_if false x h = h
 
     -- the calls as the event leaves them
     pub known_is : (thread_of u.known (thread_in u.seen.moment)).calls
         ≡ Rattle.pg_slice_rules.specs.Known.after_event r.program u.seen.moment ev (kind_of r0)
-        (slice_index_or u.seen.before.words (thread_in u.seen.moment) Rattle.pg_slice_rules.specs.Shadows.unset) q.both.x (q.both.ks ∷ q.both.more)
+        (slice_index_or u.seen.before.words (thread_in u.seen.moment) Rattle.pg_slice_rules.specs.SymbolicValues.unset) q.both.x (q.both.ks ∷ q.both.more)
     known_is = event_known r d input program u st moves y q good objects r0 r1 act0 act same
 
     -- ---- a request that writes no cell
@@ -239,9 +239,9 @@ module _ (r : ReferenceRun) (d : Taken) (input : List ℤ) (program : IsProgram 
       let r1 = requests.Putchar v.0 in
       let none = cells_nothing r0 r1 act0 act refl refl refl refl refl refl in
       let a : answer r d input u st moves y q ≡ v.0 % 256 = ap (answer_to input st t) act ∙ putchar_done st.sync t v.0 in
-      event_fits r0 r1 act0 act refl (set_shadow b.x.result (low_byte (operand_at p b.ks b.x.op 0)) b.ks ∷ b.more) (known_is r0 r1 act0 act refl)
+      event_fits r0 r1 act0 act refl (set_symbolic b.x.result (low_byte (operand_at p b.ks b.x.op 0)) b.ks ∷ b.more) (known_is r0 r1 act0 act refl)
       (ap (heap_after p (own_memory l) b.f.registers) e ∙ sym (ap (heap_after p (own_memory l0) b.f0.registers) e))
-      (subst (λ (z : Op). AreCallsLike input (op_after p l0 b.x (answer0 r d input u st moves y q) z) (set_shadow b.x.result (low_byte (operand_at p b.ks z 0)) b.ks ∷ b.more)
+      (subst (λ (z : Op). AreCallsLike input (op_after p l0 b.x (answer0 r d input u st moves y q) z) (set_symbolic b.x.result (low_byte (operand_at p b.ks z 0)) b.ks ∷ b.more)
       (op_after p l b.x (answer r d input u st moves y q) z)) (sym e) (
         frame_stepped input b.f0 b.f b.ks b.x.result (low_byte (operand_at p b.ks o 0)) (answer0 r d input u st moves y q % modulus W32) (answer r d input u st moves y q % modulus W32) b.top
             (subst (λ (n : ℕ). IsLike input (low_byte (operand_at p b.ks o 0)) (Some n)) (sym (ap (λ (n : ℕ). n % modulus W32) a ∙ low_small v.0))

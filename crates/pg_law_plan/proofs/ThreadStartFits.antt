@@ -33,10 +33,10 @@ use Rattle.pg_law_effects.specs.Views as views
 use Rattle.pg_law_effects.proofs.ReachedStates.{present}
 use Rattle.pg_law_effects.proofs.StepViews.{leads_to}
 use Rattle.pg_law_runs.proofs.StepRules.{next_fresh}
-use Rattle.pg_slice_rules.specs.Known.{RunShadow, Taken, fresh_registers, function_in, started, thread_of}
+use Rattle.pg_slice_rules.specs.Known.{SymbolicState, Taken, fresh_registers, function_in, started, thread_of}
 use Rattle.pg_slice_rules.specs.Moments.{calls_of, instr_in, thread_in}
 use Rattle.pg_slice_rules.specs.Rules.{kind_in}
-use Rattle.pg_slice_rules.specs.Shadows.{Shadow, always, unset}
+use Rattle.pg_slice_rules.specs.SymbolicValues.{Symbolic, always, unset}
 use Rattle.pg_law_plan.specs.Likes.{AreLike, IsCellLike, IsLike, IsToldLike, StandLike, like}
 use Rattle.pg_law_plan.specs.Moves.{deed_moved}
 use Rattle.pg_law_plan.specs.Units.{PlanUnit, ReferenceRun, access_touch, cell_known, deed_of, instance_touch, is_event_at, is_instance, is_written_in, reads_cell, reference_of, standing_of}
@@ -77,7 +77,7 @@ unfolding fresh
 calls_fresh p t f = refl
 
 -- the thread behind its start
-start_like : (p : NumberedProgram) (input : List ℤ) (t f a0 a : ℕ) (argument : Shadow) → IsLike input argument (Some a) →
+start_like : (p : NumberedProgram) (input : List ℤ) (t f a0 a : ℕ) (argument : Symbolic) → IsLike input argument (Some a) →
     StandLike input (standing_of (Some (after p (fresh p t f) a0)) (started (parameter_count p f) argument (fresh_registers p f) ∷ [])) (Some (after p (fresh p t f) a))
 unfolding after fresh
 start_like p input t f a0 a argument h = record {
@@ -194,7 +194,7 @@ module _ (r : ReferenceRun) (d : Taken) (input : List ℤ) (u : PlanUnit) (unit 
       ∙ ap (λ (i : ℕ). slice_index_or u.seen.before.words i (always 0)) at ∙ sym (word_there u.seen.before.words t unset (always 0) (omega (arith, made, words))) in
       let z : cell_at st c ≡ slice_index st.words t = ap (λ (z : Bool). if z then Rattle.pg_run_memory.specs.Memory.byte_at st.memory c else slice_index st.words (c - MEMORY_BYTES)) out
       ∙ ap (slice_index st.words) at in
-      subst (λ (s : Shadow). IsLike input s (Some (slice_index st.words t))) x (subst (λ (n : ℕ). IsLike input (cell_known u.seen.before c) (Some n)) z (cells c reads))
+      subst (λ (s : Symbolic). IsLike input s (Some (slice_index st.words t))) x (subst (λ (n : ℕ). IsLike input (cell_known u.seen.before c) (Some n)) z (cells c reads))
 
   local0 : u.local ≡ Some (after r.program (fresh r.program (thread_in u.seen.moment) b.function) answer0)
   unfolding effect_of
@@ -213,7 +213,7 @@ module _ (r : ReferenceRun) (d : Taken) (input : List ℤ) (u : PlanUnit) (unit 
       let p = r.program in
       let t = thread_in u.seen.moment in
       let ev : Event = record { kind = turns.Start; object = t; operands = ns0; reply = reply0; write = None } in
-      ap (λ (z : RunShadow). (thread_of z t).calls) unit.known
+      ap (λ (z : SymbolicState). (thread_of z t).calls) unit.known
       ∙ event_calls (reference_of r) d u.seen.number u.seen.moment u.seen.before instr_is.0 instr_is.1 (sym unit.met.live ∙ unit.live) (fresh_registers p b.function) [] calls ev kind0
       ∙ ap (λ (f : ℕ). started (parameter_count p f) (slice_index_or u.seen.before.words t unset) (fresh_registers p b.function) ∷ [])
       (ap function_in (unit.met.calls ∙ ap calls_of b.first) ∙ calls_fresh p t b.function)

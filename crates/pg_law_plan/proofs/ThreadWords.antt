@@ -28,9 +28,9 @@ use Rattle.pg_law_effects.specs.Effect.{answer_to, effect, effect_of, local_set,
 use Rattle.pg_law_effects.proofs.StepEffects.{has_effect}
 use Rattle.pg_slice_rules.specs.Extents.{is_live}
 use Rattle.pg_slice_rules.specs.Freeable.{FreeRegion}
-use Rattle.pg_slice_rules.specs.Known.{Reference, RunShadow, Taken, after_step, live_after, live_by, region_of, registers_of, thread_of, words_after}
+use Rattle.pg_slice_rules.specs.Known.{Reference, SymbolicState, Taken, after_step, live_after, live_by, region_of, registers_of, thread_of, words_after}
 use Rattle.pg_slice_rules.specs.Moments.{Moment, instr_in, thread_in}
-use Rattle.pg_slice_rules.specs.Shadows.{Shadow}
+use Rattle.pg_slice_rules.specs.SymbolicValues.{Symbolic}
 use Rattle.pg_law_plan.proofs.ThreadAtInstruction.{told_is}
 use Rattle.pg_law_plan.proofs.LocalStepFits.{kind_inner}
 use Rattle.pg_law_plan.proofs.KnownCalls.{IsInnerKind}
@@ -62,12 +62,12 @@ plain_more (kinds.Event e) n h = absurd (true≢false h)
 
 -- ---- in what is known
 
-words_by : (p : NumberedProgram) (t : ℕ) (k : TurnKind) (rs : List Shadow) (o : Op) (words : List Shadow) → length (words_after p t k rs o words) ≡ more_by k (length words)
+words_by : (p : NumberedProgram) (t : ℕ) (k : TurnKind) (rs : List Symbolic) (o : Op) (words : List Symbolic) → length (words_after p t k rs o words) ≡ more_by k (length words)
 words_by p t turns.Exit rs o words = length_set words t _
 words_by p t turns.Create rs o words = length_push words _
 words_by p t k rs o words = refl
 
-live_words : (p : NumberedProgram) (d : Taken) (n : ℕ) (m : Moment) (region : Option FreeRegion) (x : Instr) (k : StepKind) (s : RunShadow)
+live_words : (p : NumberedProgram) (d : Taken) (n : ℕ) (m : Moment) (region : Option FreeRegion) (x : Instr) (k : StepKind) (s : SymbolicState)
     → length (live_by p d n m region x k s).words ≡ more_of k (length s.words)
 live_words p d n m region x (kinds.Event e) s = words_by p (thread_in m) e.kind (registers_of s (thread_in m)) x.op s.words
 live_words p d n m region x (kinds.Access a) s = refl
@@ -152,7 +152,7 @@ nowhere gated p s t ns a n m action e h = refl
 
 -- ---- a step keeps them
 
-module _ (R : Reference) (d : Taken) (n : ℕ) (m : Moment) (known : RunShadow) (gated : List InstrId) (input : List ℤ) (s : State) (h : Takes gated R.program input s m.did.did) where
+module _ (R : Reference) (d : Taken) (n : ℕ) (m : Moment) (known : SymbolicState) (gated : List InstrId) (input : List ℤ) (s : State) (h : Takes gated R.program input s m.did.did) where
   is_instr : instr_in R.program m ≡ slice_get R.program.instrs (instr_of s (thread_in m))
   is_instr = ap (λ (z : Step). slice_get R.program.instrs z.instr.0) (told_is gated R.program input s h.after (thread_in m) m.did.did h.is_step)
 

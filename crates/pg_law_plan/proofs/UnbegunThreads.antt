@@ -39,7 +39,7 @@ use Rattle.pg_law_effects.proofs.StepEffects.{has_effect}
 use Rattle.pg_law_effects.proofs.ReachedStates.{present}
 use Rattle.pg_slice_rules.specs.Extents.{Extent, is_live}
 use Rattle.pg_slice_rules.specs.Freeable.{FreeRegion}
-use Rattle.pg_slice_rules.specs.Known.{Reference, RunShadow, Seen, Taken, ThreadShadow, after_step, fresh_registers, fresh_thread, live_after, live_by, no_thread, region_of, seen_from, start_of}
+use Rattle.pg_slice_rules.specs.Known.{Reference, SymbolicState, Seen, Taken, SymbolicThread, after_step, fresh_registers, fresh_thread, live_after, live_by, no_thread, region_of, seen_from, start_of}
 use Rattle.pg_slice_rules.specs.Known.{thread_of, threads_after, with_extents}
 use Rattle.pg_slice_rules.specs.Moments.{Moment, calls_of, instr_in, moments_from, thread_in}
 use Rattle.pg_law_plan.specs.Fits.{StartsAreFresh}
@@ -56,29 +56,29 @@ use Rattle.pg_law_plan.proofs.ThreadWords.{length_push, length_set, request_at}
 -- ---- lists of threads
 
 -- what is known of a thread's calls
-abbrev calls_in : List ThreadShadow → ℕ → List (List Rattle.pg_slice_rules.specs.Shadows.Shadow)
+abbrev calls_in : List SymbolicThread → ℕ → List (List Rattle.pg_slice_rules.specs.SymbolicValues.Symbolic)
 calls_in threads u = (slice_index_or threads u no_thread).calls
 
-extents_keep : (threads : List ThreadShadow) (t u : ℕ) (z : ThreadShadow) → z.calls ≡ calls_in threads t → calls_in (slice_set threads t z) u ≡ calls_in threads u
+extents_keep : (threads : List SymbolicThread) (t u : ℕ) (z : SymbolicThread) → z.calls ≡ calls_in threads t → calls_in (slice_set threads t z) u ≡ calls_in threads u
 extents_keep [] t u z h = refl
 extents_keep (x ∷ xs) zero zero z h = h
 extents_keep (x ∷ xs) zero (suc u) z h = refl
 extents_keep (x ∷ xs) (suc t) zero z h = refl
 extents_keep (x ∷ xs) (suc t) (suc u) z h = extents_keep xs t u z h
 
-set_keeps : (threads : List ThreadShadow) (t u : ℕ) (z : ThreadShadow) → u ≢ t → calls_in (slice_set threads t z) u ≡ calls_in threads u
+set_keeps : (threads : List SymbolicThread) (t u : ℕ) (z : SymbolicThread) → u ≢ t → calls_in (slice_set threads t z) u ≡ calls_in threads u
 set_keeps [] t u z h = refl
 set_keeps (x ∷ xs) zero zero z h = absurd (h refl)
 set_keeps (x ∷ xs) zero (suc u) z h = refl
 set_keeps (x ∷ xs) (suc t) zero z h = refl
 set_keeps (x ∷ xs) (suc t) (suc u) z h = set_keeps xs t u z (λ e. h (ap suc e))
 
-push_keeps : (threads : List ThreadShadow) (u : ℕ) (z : ThreadShadow) → u < length threads → calls_in (threads ++ z ∷ []) u ≡ calls_in threads u
+push_keeps : (threads : List SymbolicThread) (u : ℕ) (z : SymbolicThread) → u < length threads → calls_in (threads ++ z ∷ []) u ≡ calls_in threads u
 push_keeps [] u z h = absurd (omega (arith, h))
 push_keeps (x ∷ xs) zero z h = refl
 push_keeps (x ∷ xs) (suc u) z h = push_keeps xs u z (omega (arith, h))
 
-push_new : (threads : List ThreadShadow) (u : ℕ) (z : ThreadShadow) → u ≡ length threads → calls_in (threads ++ z ∷ []) u ≡ z.calls
+push_new : (threads : List SymbolicThread) (u : ℕ) (z : SymbolicThread) → u ≡ length threads → calls_in (threads ++ z ∷ []) u ≡ z.calls
 push_new [] zero z h = refl
 push_new [] (suc u) z h = absurd (omega (arith, h))
 push_new (x ∷ xs) zero z h = absurd (omega (arith, h))
@@ -95,36 +95,36 @@ abbrev made_of : StepKind → Option ℕ
 made_of (kinds.Event e) = made_by e e.kind
 made_of k = None
 
-abbrev with_thread : NumberedProgram → Option ℕ → List ThreadShadow → List ThreadShadow
+abbrev with_thread : NumberedProgram → Option ℕ → List SymbolicThread → List SymbolicThread
 with_thread p None threads = threads
 with_thread p (Some f) threads = threads ++ fresh_thread p f ∷ []
 
 -- threads as they were, but for thread t
-record AreKept (p : NumberedProgram) (t : ℕ) (made : Option ℕ) (old new : List ThreadShadow) : Type 0 where
+record AreKept (p : NumberedProgram) (t : ℕ) (made : Option ℕ) (old new : List SymbolicThread) : Type 0 where
   number : length new ≡ length (with_thread p made old)
   others : (u : ℕ) → u ≢ t → calls_in new u ≡ calls_in (with_thread p made old) u
 
-kept_set : (p : NumberedProgram) (t : ℕ) (old : List ThreadShadow) (z : ThreadShadow) → AreKept p t None old (slice_set old t z)
+kept_set : (p : NumberedProgram) (t : ℕ) (old : List SymbolicThread) (z : SymbolicThread) → AreKept p t None old (slice_set old t z)
 kept_set p t old z = record { number = length_set old t z; others = λ u h. set_keeps old t u z h }
 
-kept_push : (p : NumberedProgram) (t f : ℕ) (old : List ThreadShadow) (z : ThreadShadow) → AreKept p t (Some f) old (slice_set old t z ++ fresh_thread p f ∷ [])
+kept_push : (p : NumberedProgram) (t f : ℕ) (old : List SymbolicThread) (z : SymbolicThread) → AreKept p t (Some f) old (slice_set old t z ++ fresh_thread p f ∷ [])
 kept_push p t f old z = record {
   number = length_push (slice_set old t z) _ ∙ ap suc (length_set old t z) ∙ sym (length_push old (fresh_thread p f));
   others = λ u h. go old t u h;
 }
   where
-    go : (xs : List ThreadShadow) (t u : ℕ) → u ≢ t → calls_in (slice_set xs t z ++ fresh_thread p f ∷ []) u ≡ calls_in (xs ++ fresh_thread p f ∷ []) u
+    go : (xs : List SymbolicThread) (t u : ℕ) → u ≢ t → calls_in (slice_set xs t z ++ fresh_thread p f ∷ []) u ≡ calls_in (xs ++ fresh_thread p f ∷ []) u
     go [] t u h = refl
     go (x ∷ xs) zero zero h = absurd (h refl)
     go (x ∷ xs) zero (suc u) h = refl
     go (x ∷ xs) (suc t) zero h = refl
     go (x ∷ xs) (suc t) (suc u) h = go xs t u (λ e. h (ap suc e))
 
-kept_by : (p : NumberedProgram) (t : ℕ) (e : Event) (k : TurnKind) (old : List ThreadShadow) (z : ThreadShadow) → AreKept p t (made_by e k) old (threads_after p e k (slice_set old t z))
+kept_by : (p : NumberedProgram) (t : ℕ) (e : Event) (k : TurnKind) (old : List SymbolicThread) (z : SymbolicThread) → AreKept p t (made_by e k) old (threads_after p e k (slice_set old t z))
 kept_by p t e turns.Create old z = kept_push p t (slice_index e.operands 2) old z
 kept_by p t e k old z = kept_set p t old z
 
-live_kept : (p : NumberedProgram) (d : Taken) (n : ℕ) (m : Moment) (region : Option FreeRegion) (x : Instr) (k : StepKind) (s : RunShadow)
+live_kept : (p : NumberedProgram) (d : Taken) (n : ℕ) (m : Moment) (region : Option FreeRegion) (x : Instr) (k : StepKind) (s : SymbolicState)
     → AreKept p (thread_in m) (made_of k) s.threads (live_by p d n m region x k s).threads
 live_kept p d n m region x (kinds.Event e) s = kept_by p (thread_in m) e e.kind s.threads _
 live_kept p d n m region x (kinds.Access a) s = kept_set p (thread_in m) s.threads _
@@ -132,10 +132,10 @@ live_kept p d n m region x kinds.Other s = kept_set p (thread_in m) s.threads _
 live_kept p d n m region x (kinds.Branch c) s = kept_set p (thread_in m) s.threads _
 live_kept p d n m region x (kinds.Allocation a b) s = kept_set p (thread_in m) s.threads _
 
-kept_same : (p : NumberedProgram) (t : ℕ) (old : List ThreadShadow) → AreKept p t None old old
+kept_same : (p : NumberedProgram) (t : ℕ) (old : List SymbolicThread) → AreKept p t None old old
 kept_same p t old = record { number = refl; others = λ u h. refl }
 
-kept_extents : (p : NumberedProgram) (t : ℕ) (made : Option ℕ) (old new : List ThreadShadow) (es : List Extent) → AreKept p t made old new → AreKept p t made old (with_extents t es new)
+kept_extents : (p : NumberedProgram) (t : ℕ) (made : Option ℕ) (old new : List SymbolicThread) (es : List Extent) → AreKept p t made old new → AreKept p t made old (with_extents t es new)
 kept_extents p t made old new es h = record {
   number = length_set new t _ ∙ h.number;
   others = λ u v. extents_keep new t u _ refl ∙ h.others u v;
@@ -188,7 +188,7 @@ fresh_waits : (p : NumberedProgram) (t f : ℕ) → (fresh p t f).begun ≡ fals
 unfolding fresh
 fresh_waits p t f = refl
 
-pub record AreFresh (p : NumberedProgram) (known : RunShadow) (s : State) : Type 0 where
+pub record AreFresh (p : NumberedProgram) (known : SymbolicState) (s : State) : Type 0 where
   pub number : length known.threads ≡ length s.locals
   pub fresh_calls : (u f : ℕ) → slice_get s.locals u ≡ Some (fresh p u f) → (thread_of known u).calls ≡ fresh_registers p f ∷ []
 
@@ -202,7 +202,7 @@ function_of p n m f g e =
     cc
 
 -- with the thread that is made
-made_fresh : (p : NumberedProgram) (made : Option ℕ) (threads : List ThreadShadow) (locals : List LocalState) → length threads ≡ length locals → (u f : ℕ) →
+made_fresh : (p : NumberedProgram) (made : Option ℕ) (threads : List SymbolicThread) (locals : List LocalState) → length threads ≡ length locals → (u f : ℕ) →
     (slice_get locals u ≡ Some (fresh p u f) → calls_in threads u ≡ fresh_registers p f ∷ []) → slice_get (with_local p made locals) u ≡ Some (fresh p u f)
     → calls_in (with_thread p made threads) u ≡ fresh_registers p f ∷ []
 made_fresh p None threads locals e u f h k = h k
@@ -218,7 +218,7 @@ made_fresh p (Some g) threads locals e u f h k = go (cases_eq u (length locals))
         let old = sym (last_other locals (fresh p (length locals) g) u q) ∙ k in
         push_keeps threads u (fresh_thread p g) (subst (λ (i : ℕ). u < i) (sym e) (slice_get_within locals u (fresh p u f) old)) ∙ h old
 
-module _ (R : Reference) (d : Taken) (n : ℕ) (m : Moment) (known : RunShadow) (gated : List InstrId) (input : List ℤ) (s : State) (h : Takes gated R.program input s m.did.did) where
+module _ (R : Reference) (d : Taken) (n : ℕ) (m : Moment) (known : SymbolicState) (gated : List InstrId) (input : List ℤ) (s : State) (h : Takes gated R.program input s m.did.did) where
   abbrev made : Option ℕ
   made = made_in (next_of R.program s (thread_in m))
 
@@ -362,7 +362,7 @@ first_fresh p = record { number = refl; fresh_calls = go }
     go (suc u) f e = absurd cc
 
 module _ (r : ReferenceRun) (d : Taken) where
-  met_fresh : (T : List ℕ) (k n : ℕ) (known : RunShadow) (s z : State) (xs : List Step) → IsRun r.gated r.program r.input s xs z → AreFresh r.program known s →
+  met_fresh : (T : List ℕ) (k n : ℕ) (known : SymbolicState) (s z : State) (xs : List Step) → IsRun r.gated r.program r.input s xs z → AreFresh r.program known s →
       AllOf (λ (x : Seen). x.live ≡ false → is_event_at x ≡ false) (seen_from (reference_of r) d n known (moments_from r.gated r.program r.input s (times recorded T k xs))) →
       AllOf (λ (m : Met). AreFresh r.program m.seen.before m.state)
       (met_with (seen_from (reference_of r) d n known (moments_from r.gated r.program r.input s (times recorded T k xs))) (states_from r s xs))

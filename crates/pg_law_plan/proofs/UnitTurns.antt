@@ -9,7 +9,7 @@ use Rattle.pg_run_trace.specs.declared.step.Step.{Step}
 use Rattle.pg_run_trace.specs.Races.{recorded}
 use Rattle.pg_run.specs.State.{State, initial}
 use Rattle.pg_law_effects.specs.PermittedSteps.{none_taken, one_more}
-use Rattle.pg_slice_rules.specs.Known.{RunShadow, Seen, Taken, seen_from, start_of}
+use Rattle.pg_slice_rules.specs.Known.{SymbolicState, Seen, Taken, seen_from, start_of}
 use Rattle.pg_slice_rules.specs.Moments.{moments_from, thread_in}
 use Rattle.pg_law_plan.specs.Order.{Interval, interval_of, interval_seen}
 use Rattle.pg_law_plan.specs.Units.{ExtentsArePlain, Met, PlanUnit, ReferenceRun, behind, deed_of, is_event_at, last_from, met_in, met_with, plan_of, reference_of, states_from, turns_of}
@@ -30,7 +30,7 @@ AreTimed T k [] = ⊤
 AreTimed T k (m ∷ ms) = IsTimed T k m.seen × AreTimed T (done_after (is_event_at m.seen) k) ms
 
 module _ (r : ReferenceRun) (d : Taken) where
-  met_timed : (T : List ℕ) (k n : ℕ) (known : RunShadow) (s : State) (xs : List Step) → AreTurns recorded T k xs →
+  met_timed : (T : List ℕ) (k n : ℕ) (known : SymbolicState) (s : State) (xs : List Step) → AreTurns recorded T k xs →
       AllOf (λ (x : Seen). x.live ≡ false → is_event_at x ≡ false) (seen_from (reference_of r) d n known (moments_from r.gated r.program r.input s (times recorded T k xs))) →
       AreTimed T k (met_with (seen_from (reference_of r) d n known (moments_from r.gated r.program r.input s (times recorded T k xs))) (states_from r s xs))
   unfolding seen_from moments_from states_from

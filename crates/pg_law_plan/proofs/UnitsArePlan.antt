@@ -15,7 +15,7 @@ use Rattle.pg_run_trace.specs.Steps.{access_in, access_of}
 use Rattle.pg_run.specs.State.{State, initial}
 use Rattle.pg_law_effects.specs.PermittedSteps.{none_taken, one_more}
 use Rattle.pg_slice_rules.specs.Closed.{IsClosed}
-use Rattle.pg_slice_rules.specs.Known.{Reference, RunShadow, Seen, Taken, after_step, seen_from, seen_in, start_of}
+use Rattle.pg_slice_rules.specs.Known.{Reference, SymbolicState, Seen, Taken, after_step, seen_from, seen_in, start_of}
 use Rattle.pg_slice_rules.specs.Moments.{Moment, moments_from, thread_in}
 use Rattle.pg_slice_rules.specs.Rules.{all_of, asks_disturbed, asks_shared, is_disturbed, is_shared, kind_in}
 use Rattle.pg_law_plan.specs.Order.{Interval, IsOrderedRun, interval_of, interval_seen}
@@ -43,7 +43,7 @@ not_asked false x h = refl
 
 -- ---- the steps that are seen
 
-pub seen_times : (R : Reference) (d : Taken) (n : ℕ) (known : RunShadow) (ms : List Moment) → map (λ (x : Seen). x.moment) (seen_from R d n known ms) ≡ ms
+pub seen_times : (R : Reference) (d : Taken) (n : ℕ) (known : SymbolicState) (ms : List Moment) → map (λ (x : Seen). x.moment) (seen_from R d n known ms) ≡ ms
 unfolding seen_from
 seen_times R d n known [] = refl
 seen_times R d n known (m ∷ ms) = ap (λ (l : List Moment). m ∷ l) (seen_times R d (suc n) (after_step R d n m known) ms)

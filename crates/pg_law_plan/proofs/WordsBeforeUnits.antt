@@ -9,7 +9,7 @@ use Rattle.pg_run_trace.specs.Races.{recorded}
 use Rattle.pg_run.specs.Runs.{IsRun}
 use Rattle.pg_run.specs.State.{State, initial}
 use Rattle.pg_law_effects.specs.PermittedSteps.{none_taken, one_more}
-use Rattle.pg_slice_rules.specs.Known.{RunShadow, Seen, Taken, seen_from, start_of}
+use Rattle.pg_slice_rules.specs.Known.{SymbolicState, Seen, Taken, seen_from, start_of}
 use Rattle.pg_slice_rules.specs.Moments.{calls_of, moments_from, thread_in}
 use Rattle.pg_law_plan.specs.Order.{IsOrderedRun}
 use Rattle.pg_law_plan.specs.Units.{ExtentsArePlain, Met, PlanUnit, ReferenceRun, behind, is_event_at, last_from, met_in, met_with, reference_of, states_from, turns_of, unit_of, units_from, units_of}
@@ -33,7 +33,7 @@ module _ (r : ReferenceRun) (d : Taken) where
   unfolding initial
   first_words = refl
 
-  met_words : (T : List ℕ) (k n : ℕ) (known : RunShadow) (s z : State) (xs : List Step) → IsRun r.gated r.program r.input s xs z → length known.words ≡ length s.locals →
+  met_words : (T : List ℕ) (k n : ℕ) (known : SymbolicState) (s z : State) (xs : List Step) → IsRun r.gated r.program r.input s xs z → length known.words ≡ length s.locals →
       AllOf (λ (x : Seen). x.live ≡ false → is_event_at x ≡ false) (seen_from (reference_of r) d n known (moments_from r.gated r.program r.input s (times recorded T k xs))) →
       AllOf (λ (m : Met). length m.seen.before.words ≡ length m.state.locals)
       (met_with (seen_from (reference_of r) d n known (moments_from r.gated r.program r.input s (times recorded T k xs))) (states_from r s xs))

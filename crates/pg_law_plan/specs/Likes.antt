@@ -6,7 +6,7 @@ use Rattle.pg_run_thread.specs.LocalState.{Frame, LocalState}
 use Rattle.pg_run_trace.specs.declared.step.Step.{Step}
 use Rattle.pg_run_trace.specs.Races.{reply_in}
 use Rattle.pg_run_trace.specs.Steps.{event_of}
-use Rattle.pg_slice_rules.specs.Shadows.{Shadow, Known, Bounded, Unknown}
+use Rattle.pg_slice_rules.specs.SymbolicValues.{Symbolic, Known, Bounded, Unknown}
 
 -- ---- numbers
 
@@ -27,16 +27,16 @@ HasBoundsIfAny word (Some n) = HasBoundsOf word (Some n)
 
 -- on this input a value, none where it was never set, is like what is known of it: a known one is that number, with those bounds; of
 -- another, which is set, its bounds may be known, and else it may be any or none
-abbrev pub IsLike : List ℤ → Shadow → Option ℕ → Type 0
+abbrev pub IsLike : List ℤ → Symbolic → Option ℕ → Type 0
 IsLike input (Known f g) v = (v ≡ f input) × HasBoundsIfAny (g input) v
 IsLike input (Bounded f x) v = HasBoundsOf (f input) v
 IsLike input (Unknown x) v = ⊤
 
-abbrev pub IsCellLike : List ℤ → Shadow → ℕ → Type 0
+abbrev pub IsCellLike : List ℤ → Symbolic → ℕ → Type 0
 IsCellLike input s n = IsLike input s (Some n)
 
 -- registers, one by one
-abbrev pub AreLike : List ℤ → List Shadow → List (Option ℕ) → Type 0
+abbrev pub AreLike : List ℤ → List Symbolic → List (Option ℕ) → Type 0
 AreLike input [] [] = ⊤
 AreLike input [] (v ∷ vs) = ⊥
 AreLike input (s ∷ ss) [] = ⊥
@@ -48,7 +48,7 @@ AreLike input (s ∷ ss) (v ∷ vs) = IsLike input s v × AreLike input ss vs
 -- reference run's own numbers in them aren't looked at
 pub record Standing : Type 0 where
   pub local : LocalState
-  pub known : List (List Shadow)
+  pub known : List (List Symbolic)
 
 -- a thread of a plan: none where it isn't made or hasn't begun; and how many units it has done
 pub record PlanThread : Type 0 where
@@ -61,13 +61,13 @@ pub record MovedThread : Type 0 where
   pub moves : ℕ
 
 -- a call g of the run is in the function of f, at its place and with its stack height, and its registers are like these
-pub record IsCallLike (input : List ℤ) (f : Frame) (known : List Shadow) (g : Frame) : Type 0 where
+pub record IsCallLike (input : List ℤ) (f : Frame) (known : List Symbolic) (g : Frame) : Type 0 where
   pub function : g.function ≡ f.function
   pub place : g.place ≡ f.place
   pub height : g.height ≡ f.height
   pub registers : AreLike input known g.registers
 
-abbrev pub AreCallsLike : List ℤ → List Frame → List (List Shadow) → List Frame → Type 0
+abbrev pub AreCallsLike : List ℤ → List Frame → List (List Symbolic) → List Frame → Type 0
 AreCallsLike input [] [] [] = ⊤
 AreCallsLike input (f ∷ fs) (known ∷ more) (g ∷ gs) = IsCallLike input f known g × AreCallsLike input fs more gs
 AreCallsLike input _ _ _ = ⊥
@@ -101,5 +101,5 @@ pub record IsToldLike (x y : Step) : Type 0 where
   pub reply : reply_in y.kind ≡ reply_in x.kind
 
 -- how a plan is like a run on an input. Printed bytes are no part of it: no step reads them
-abbrev pub like : List ℤ → Likeness PlanThread Shadow Step MovedThread ℕ Step
+abbrev pub like : List ℤ → Likeness PlanThread Symbolic Step MovedThread ℕ Step
 like input = record { local = IsThreadLike input; cell = IsCellLike input; told = IsToldLike }

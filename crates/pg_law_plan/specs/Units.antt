@@ -24,10 +24,10 @@ use Rattle.pg_run.specs.MachineStep.{step}
 use Rattle.pg_law_effects.specs.PermittedSteps.{none_taken, one_more}
 use Rattle.pg_law_effects.specs.Views.{Objects, is_thread, local_at, objects_of}
 use Rattle.pg_slice_rules.specs.Freeable.{Regions, bounds_of}
-use Rattle.pg_slice_rules.specs.Known.{Reference, RunShadow, Seen, Taken, after_step, seen_in, start_of, thread_of}
+use Rattle.pg_slice_rules.specs.Known.{Reference, SymbolicState, Seen, Taken, after_step, seen_in, start_of, thread_of}
 use Rattle.pg_slice_rules.specs.Moments.{moments_of, state_after, thread_in}
 use Rattle.pg_slice_rules.specs.Rules.{Footprint, has_region, kind_in, footprints_in}
-use Rattle.pg_slice_rules.specs.Shadows.{Shadow, always}
+use Rattle.pg_slice_rules.specs.SymbolicValues.{Symbolic, always}
 use Rattle.pg_law_plan.specs.Likes.{PlanThread, Standing}
 
 -- ---- the run
@@ -89,7 +89,7 @@ pub record PlanUnit : Type 0 where
   pub seen : Seen
   pub state : State
   pub units : ℕ
-  pub known : RunShadow
+  pub known : SymbolicState
   pub local : Option LocalState
   pub objects : Objects
 
@@ -193,21 +193,21 @@ writes_cell d x c = if nat_lt c MEMORY_BYTES then writes_byte d x c else is_thre
 -- ---- the plan
 
 -- what is known of a cell; the word of a thread that isn't made is 0
-abbrev pub cell_known : RunShadow → ℕ → Shadow
+abbrev pub cell_known : SymbolicState → ℕ → Symbolic
 cell_known known c = if nat_lt c MEMORY_BYTES then known.bytes c else slice_index_or known.words (c - MEMORY_BYTES) (always 0)
 
-abbrev pub standing_of : Option LocalState → List (List Shadow) → Option Standing
+abbrev pub standing_of : Option LocalState → List (List Symbolic) → Option Standing
 standing_of None known = None
 standing_of (Some l) known = Some (record { local = l; known = known })
 
 abbrev pub PlanState : Type 0
-PlanState = plans.State PlanThread Shadow Objects
+PlanState = plans.State PlanThread Symbolic Objects
 
 abbrev pub PlanDeed : Type 0
-PlanDeed = Deed PlanThread Shadow Objects Step
+PlanDeed = Deed PlanThread Symbolic Objects Step
 
 -- a state of the machine and what is known in it as a state of a plan, where each thread has done so many units
-abbrev pub planned : State → RunShadow → (ℕ → ℕ) → PlanState
+abbrev pub planned : State → SymbolicState → (ℕ → ℕ) → PlanState
 planned s known counts = record {
   locals = λ t. record { standing = standing_of (local_at s t) (thread_of known t).calls; units = counts t };
   cells = cell_known known;

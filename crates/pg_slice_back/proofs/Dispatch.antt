@@ -20,9 +20,9 @@ use Rattle.pg_slice_rules.specs.declared.decision.Decision.TheVariants.{Pinned}
 use Rattle.pg_slice_rules.specs.Closed.{AreWithin}
 use Rattle.pg_slice_rules.specs.Moments.{Moment, instr_in}
 use Rattle.pg_slice_rules.specs.Freeable.{FreeRegion, bounds_of}
-use Rattle.pg_slice_rules.specs.Shadows.{is_within}
+use Rattle.pg_slice_rules.specs.SymbolicValues.{is_within}
 use Rattle.pg_slice_rules.specs.Extents.{edge_in}
-use Rattle.pg_slice_rules.specs.Known.{Reference, RunShadow, Seen, Taken, caller_target, has, is_branch}
+use Rattle.pg_slice_rules.specs.Known.{Reference, SymbolicState, Seen, Taken, caller_target, has, is_branch}
 use Rattle.pg_slice_rules.specs.Rules.{has_region}
 use Rattle.pg_law_least.specs.Keeps.{is_branching, may_write}
 use Rattle.pg_law_least.proofs.LikeValues.{Likes}
@@ -134,7 +134,7 @@ module _ (R : Reference) (e : Taken) (p : NumberedProgram) (r : ReferenceRun) (x
       is_access = kind_is (kinds.Access a) kind
 
       pub load_back : (w : Width) (from : Value) → x.op ≡ op.Load w from → (target : Option ℕ) → target ≡ held_by x.result counts.present → (o : Option Decision) →
-          ((e : Taken) (after before : RunShadow) → Leaves at.thread at.depth (is_target target) none after before →
+          ((e : Taken) (after before : SymbolicState) → Leaves at.thread at.depth (is_target target) none after before →
           ((i : ℕ) (v : Bool) → target ≡ Some i → IsMet after (register_demand at.thread at.depth i v)
           → AllByRecursion (IsMet before) (of_bytes (range_of a).start a.bytes) × (e.exact n ≡ true)) →
           AreMet after old → AreMet before new × IfSome o (λ (z : Decision). has e z ≡ true)) → AreMet after old → AreMet s new × IfSome o (λ (z : Decision). has e z ≡ true)
@@ -145,7 +145,7 @@ module _ (R : Reference) (e : Taken) (p : NumberedProgram) (r : ReferenceRun) (x
           (λ i v f g. load_moves R e p r x step counts n m st a is_access w from is i v (sym q ∙ f) (at_call (λ t k. IsMet after (register_demand t k i v)) g))
 
       pub store_back : (w : Width) (v to : Value) → x.op ≡ op.Store w v to → (o : Option Decision) →
-          ((e : Taken) (after before : RunShadow) → Leaves at.thread at.depth none (is_within (range_of a)) after before →
+          ((e : Taken) (after before : SymbolicState) → Leaves at.thread at.depth none (is_within (range_of a)) after before →
           ((b : ℕ) → is_within (range_of a) b ≡ true → IsMet after (byte_demand b true) → AllByRecursion (IsMet before) (of_value at.thread at.depth true v)) →
           ((b : ℕ) → (is_within (range_of a) b || is_within (bounds_of a.pointer) b) ≡ true → a.event ≡ false → IsMet after (byte_demand b true) → e.exact n ≡ true) →
           AreMet after old → AreMet before new × IfSome o (λ (z : Decision). has e z ≡ true)) → AreMet after old → AreMet s new × IfSome o (λ (z : Decision). has e z ≡ true)
@@ -182,7 +182,7 @@ module _ (R : Reference) (e : Taken) (p : NumberedProgram) (r : ReferenceRun) (x
       edge_here edge h = if_some (λ (l : Landmark). edge ≡ l.edge) (landmark_at r n) (landmark_of R.program R.regions m) landmark_is h ∙ edge_is R e p r x step counts n m st is_that
 
       pub edge_back : takes_edge x.op ≡ true → (edge : Option ℕ) → IfSome (landmark_at r n) (λ (l : Landmark). edge ≡ l.edge) →
-          ((after before : RunShadow) → Leaves at.thread at.depth (edge_sets p edge) none after before →
+          ((after before : SymbolicState) → Leaves at.thread at.depth (edge_sets p edge) none after before →
           ((i : ℕ) (v : Bool) → i < counts.present → IsMet after (register_demand at.thread at.depth i v)
           → AllByRecursion (IsMet before) (back_edge p at.thread at.depth x.block.0 edge i v)) →
           AreMet after old → AreMet before new) → AreMet after old → AreMet s new
@@ -197,7 +197,7 @@ module _ (R : Reference) (e : Taken) (p : NumberedProgram) (r : ReferenceRun) (x
           (edge_op_moves R e p r x step counts n m st is_that f i v l (at_call (λ t k. IsMet after (register_demand t k i v)) z)))))
 
       pub call_back : (g : ℕ) (args : List Value) → x.op ≡ op.Call g args →
-          ((after before : RunShadow) → Leaves at.thread at.depth none none after before →
+          ((after before : SymbolicState) → Leaves at.thread at.depth none none after before →
           ((i : ℕ) (z : Value) (b : Bool) → slice_get args i ≡ Some z → IsMet after (register_demand at.thread (suc at.depth) i b)
           → AllByRecursion (IsMet before) (of_value at.thread at.depth b z)) →
           AreMet after old → AreMet before new) → AreMet after old → AreMet s new
@@ -211,7 +211,7 @@ module _ (R : Reference) (e : Taken) (p : NumberedProgram) (r : ReferenceRun) (x
 
       pub return_back : (v : Option Value) → x.op ≡ op.Ret v → (found target : Option ℕ)
           → IfSome (landmark_at r n) (λ (l : Landmark). found ≡ l.target) → target ≡ held_by found counts.under →
-          ((after before : RunShadow) → Leaves at.thread (at.depth - 1) (is_target target) none after before →
+          ((after before : SymbolicState) → Leaves at.thread (at.depth - 1) (is_target target) none after before →
           ((i : ℕ) (w : Bool) → target ≡ Some i → IsMet after (register_demand at.thread (at.depth - 1) i w) → 0 < at.depth
           → AllByRecursion (IsMet before) (of_optional at.thread at.depth w v)) →
           AreMet after old → AreMet before new) → AreMet after old → AreMet s new
@@ -224,7 +224,7 @@ module _ (R : Reference) (e : Taken) (p : NumberedProgram) (r : ReferenceRun) (x
           (return_moves R e p r x step counts n m st is_that v is i w (sym q ∙ z) (at_call (λ t k. IsMet after (register_demand t (k - 1) i w)) y) (at_call (λ t k. 0 < k) l)))
 
       pub result_back : sets_result x.op ≡ true → (target : Option ℕ) → target ≡ held_by x.result counts.present →
-          ((after before : RunShadow) → Leaves at.thread at.depth (is_target target) none after before →
+          ((after before : SymbolicState) → Leaves at.thread at.depth (is_target target) none after before →
           ((i : ℕ) (v : Bool) → target ≡ Some i → IsMet after (register_demand at.thread at.depth i v) → AllByRecursion (IsMet before) (made_by at.thread at.depth x.op v)) →
           AreMet after old → AreMet before new) → AreMet after old → AreMet s new
       result_back f target q h =

@@ -5,7 +5,7 @@ use Rattle.std.specs.List.{AllByRecursion}
 use Rattle.std.proofs.lemmas.Bool.{true≢false, eqb-true, or_cases}
 use Rattle.pg_ir.specs.declared.instr.Instr.{Instr}
 use Rattle.pg_ir.specs.Edges.{incoming_from, incoming_of, phis_of}
-use Rattle.pg_slice_rules.specs.Known.{RunShadow}
+use Rattle.pg_slice_rules.specs.Known.{SymbolicState}
 use Rattle.pg_law_demands.specs.Cells.{IsMet}
 use Rattle.pg_ir.specs.Program.{NumberedProgram}
 use Rattle.pg_law_least.specs.Keeps.{MaySet}
@@ -86,7 +86,7 @@ phis_may sets (x ∷ xs) i h f = rw (differs x.result (h x (here x xs))) (phis_m
         go true q = absurd (true≢false (sym m ∙ (ap sets (eqb-true j i q) ∙ f)))
 
 -- what an edge asks of the registers of the phis that it enters
-pub edge_phis : (p : NumberedProgram) (t k from to : ℕ) (s : RunShadow) (phis : List Instr) → phis ≡ phis_of p to → (i : ℕ) (v : Bool) (x : Instr) → last_phi phis i ≡ Some x →
+pub edge_phis : (p : NumberedProgram) (t k from to : ℕ) (s : SymbolicState) (phis : List Instr) → phis ≡ phis_of p to → (i : ℕ) (v : Bool) (x : Instr) → last_phi phis i ≡ Some x →
     AllByRecursion (IsMet s) (back_edge p t k from (Some to) i v) → AllByRecursion (IsMet s) (of_optional t k v (incoming_from (incoming_of x.op) from))
 edge_phis p t k from to s phis e i v x q h =
     subst (λ (o : Option Instr). AllByRecursion (IsMet s) (back_phi t k from o i v)) (ap (λ (xs : List Instr). last_phi xs i) (sym e) ∙ q) h

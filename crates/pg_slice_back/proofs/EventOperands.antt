@@ -6,7 +6,7 @@ use Rattle.std.proofs.lemmas.Bool.{true≢false, cases_lt}
 use Rattle.pg_ir.specs.declared.instr.Instr.{Instr}
 use Rattle.pg_run_trace.specs.declared.turn.TurnKind.{TurnKind}
 use Rattle.pg_run_trace.specs.declared.turn.TurnKind.TheVariants as turns
-use Rattle.pg_slice_rules.specs.Known.{RunShadow, Seen}
+use Rattle.pg_slice_rules.specs.Known.{SymbolicState, Seen}
 use Rattle.pg_slice_rules.specs.Moments.{thread_in}
 use Rattle.pg_slice_rules.specs.Rules.{all_of, checked_of}
 use Rattle.pg_law_least.specs.Keeps.{depth_of}
@@ -48,7 +48,7 @@ number_at (suc n) i l = go (cases_lt i n) (λ g. number_at n i g)
 pub number_in : (xs : List ℕ) (n i : ℕ) → xs ≡ below n → i < n → slice_get xs i ≡ Some i
 number_in xs n i e l = ap (λ (zs : List ℕ). slice_get zs i) e ∙ number_at n i l
 
-pub operand_there : (s : RunShadow) (y : Seen) (x : Instr) (t k : ℕ) (whole : Bool) (i : ℕ) → thread_in y.moment ≡ t
+pub operand_there : (s : SymbolicState) (y : Seen) (x : Instr) (t k : ℕ) (whole : Bool) (i : ℕ) → thread_in y.moment ≡ t
     → depth_of y ≡ k → AllByRecursion (IsMet s) (operand_demands y x whole i) →
     AllByRecursion (IsMet s) (of_operand t k whole x.op i)
 operand_there s y x t k whole i a b h =

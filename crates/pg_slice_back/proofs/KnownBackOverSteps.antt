@@ -8,8 +8,8 @@ use Rattle.pg_ir.specs.Program.{NumberedProgram}
 use Rattle.pg_run_trace.specs.declared.step.Step.{Step}
 use Rattle.pg_slice_rules.specs.Moments.{Moment, instr_in, thread_in}
 use Rattle.pg_slice_rules.specs.Freeable.{FreeRegion}
-use Rattle.pg_slice_rules.specs.Shadows.{Shadow, unset}
-use Rattle.pg_slice_rules.specs.Known.{Reference, RunShadow, Seen, Taken, after_step, region_of, registers_of, start_of, thread_of, top_of, under_top}
+use Rattle.pg_slice_rules.specs.SymbolicValues.{Symbolic, unset}
+use Rattle.pg_slice_rules.specs.Known.{Reference, SymbolicState, Seen, Taken, after_step, region_of, registers_of, start_of, thread_of, top_of, under_top}
 use Rattle.pg_law_least.specs.Keeps.{every}
 use Rattle.pg_law_least.proofs.AlikeLists.{length_like}
 use Rattle.pg_law_least.proofs.LikeValues.{Likes}
@@ -27,7 +27,7 @@ use Rattle.pg_slice_back.specs.Steps.{IsLiveStep}
 use Rattle.pg_slice_back.proofs.KnownBefore.{At, Standing, at_step, next_step, the_link}
 
 -- the last of three tests that all hold
-picked : (e : Taken) (s : RunShadow) (a b c : Bool) (x y z w : Asked) → a ≡ true → b ≡ true → c ≡ true
+picked : (e : Taken) (s : SymbolicState) (a b c : Bool) (x y z w : Asked) → a ≡ true → b ≡ true → c ≡ true
     → Asks e s (if not a then x else if not b then y else if c then z else w) → Asks e s z
 picked e s true true true x y z w f g l h = h
 picked e s true true false x y z w f g l h = absurd (true≢false (sym l))
@@ -35,19 +35,19 @@ picked e s true false c x y z w f g l h = absurd (true≢false (sym g))
 picked e s false b c x y z w f g l h = absurd (true≢false (sym f))
 
 -- the second of two, where the first holds and the second doesn't
-passed : (e : Taken) (s : RunShadow) (a b : Bool) (x y z : Asked) → a ≡ true → b ≡ false → Asks e s (if not a then x else if not b then y else z) → Asks e s y
+passed : (e : Taken) (s : SymbolicState) (a b : Bool) (x y z : Asked) → a ≡ true → b ≡ false → Asks e s (if not a then x else if not b then y else z) → Asks e s y
 passed e s true false x y z f g h = h
 passed e s true true x y z f g h = absurd (true≢false g)
 passed e s false b x y z f g h = absurd (true≢false (sym f))
 
 module _ (R : Reference) (e : Taken) (p : NumberedProgram) (r : ReferenceRun) (x : Instr) (step : Step) (counts : Counts) (n : ℕ) (m : Moment) (st : IsLiveStep R e p r x step counts n m) where
-  abbrev pub s : RunShadow
+  abbrev pub s : SymbolicState
   s = known_at R e n
 
-  abbrev pub u : RunShadow
+  abbrev pub u : SymbolicState
   u = known_at R every n
 
-  abbrev pub after : RunShadow
+  abbrev pub after : SymbolicState
   after = known_at R e (suc n)
 
   abbrev pub t : ℕ
@@ -68,10 +68,10 @@ module _ (R : Reference) (e : Taken) (p : NumberedProgram) (r : ReferenceRun) (x
   abbrev pub y : Seen
   y = of_every R n m u
 
-  abbrev cs : List (List Shadow)
+  abbrev cs : List (List Symbolic)
   cs = (thread_of s t).calls
 
-  abbrev cu : List (List Shadow)
+  abbrev cu : List (List Symbolic)
   cu = (thread_of u t).calls
 
   pub here : At R st.keeps e bound n m s u
@@ -92,7 +92,7 @@ module _ (R : Reference) (e : Taken) (p : NumberedProgram) (r : ReferenceRun) (x
   back_of : (q : Demand) → IsMet after q → Asks e s (back_cell R.program y x q.whole q.cell)
   back_of q h =
       subst (λ (o : Option Instr). Asks e s (back R.program y o q)) st.instr
-      (step_back R st.keeps e bound (Likes every) (the_link e bound) n m s u here.like here.in_run st.live q (subst (λ (z : RunShadow). IsMet z q) next h))
+      (step_back R st.keeps e bound (Likes every) (the_link e bound) n m s u here.like here.in_run st.live q (subst (λ (z : SymbolicState). IsMet z q) next h))
 
   pub byte_back : (b : ℕ) → IsMet after (byte_demand b true) → Asks e s (back_byte t k n region x b true m.did.did.kind)
   byte_back b h = back_of (byte_demand b true) h
@@ -126,11 +126,11 @@ module _ (R : Reference) (e : Taken) (p : NumberedProgram) (r : ReferenceRun) (x
   beyond : (i : ℕ) (w : Bool) → register_count y ≤ i → IsMet s (register_demand t k i w)
   beyond i w l =
       let f : length (top_of cs) ≤ i = omega (arith, l, long) in
-      subst (λ (c : List Shadow). is_met w (slice_index_or c i unset) ≡ true) (sym (top_is k cs tall))
-      (subst (λ (z : Shadow). is_met w z ≡ true) (sym (past_end (top_of cs) i unset f)) refl)
+      subst (λ (c : List Symbolic). is_met w (slice_index_or c i unset) ≡ true) (sym (top_is k cs tall))
+      (subst (λ (z : Symbolic). is_met w z ≡ true) (sym (past_end (top_of cs) i unset f)) refl)
 
   -- behind the end of the call under the present one
-  under_is : (c : List (List Shadow)) (j : ℕ) → length c ≡ suc j → call_at j c ≡ top_of (under_top c)
+  under_is : (c : List (List Symbolic)) (j : ℕ) → length c ≡ suc j → call_at j c ≡ top_of (under_top c)
   under_is [] j q = absurd (omega (arith, q))
   under_is (rs ∷ low) j q = go (suc (length low) == j) refl
     where
@@ -142,13 +142,13 @@ module _ (R : Reference) (e : Taken) (p : NumberedProgram) (r : ReferenceRun) (x
   beyond_under j i w q l =
       let c = callers_long (Likes every) cs cu alike in
       let f : length (top_of (under_top cs)) ≤ i = omega (arith, l, c) in
-      subst (λ (c : List Shadow). is_met w (slice_index_or c i unset) ≡ true) (sym (under_is cs j (tall ∙ q)))
-      (subst (λ (z : Shadow). is_met w z ≡ true) (sym (past_end (top_of (under_top cs)) i unset f)) refl)
+      subst (λ (c : List Symbolic). is_met w (slice_index_or c i unset) ≡ true) (sym (under_is cs j (tall ∙ q)))
+      (subst (λ (z : Symbolic). is_met w z ≡ true) (sym (past_end (top_of (under_top cs)) i unset f)) refl)
 
   pub no_call : k ≡ 0 → (i : ℕ) (w : Bool) → IsMet s (register_demand t 0 i w)
-  no_call q i w = subst (λ (c : List (List Shadow)). is_met w (slice_index_or (call_at 0 c) i unset) ≡ true) (sym (empty cs (tall ∙ q))) refl
+  no_call q i w = subst (λ (c : List (List Symbolic)). is_met w (slice_index_or (call_at 0 c) i unset) ≡ true) (sym (empty cs (tall ∙ q))) refl
     where
-      empty : (c : List (List Shadow)) → length c ≡ 0 → c ≡ []
+      empty : (c : List (List Symbolic)) → length c ≡ 0 → c ≡ []
       empty [] q = refl
       empty (rs ∷ low) q = absurd (omega (arith, q))
 

@@ -3,7 +3,7 @@ use Rattle.std.proofs.Common.{◌≡◌, ℕ, zero, suc, ◌+◌, ◌<◌, ◌�
 use Rattle.std.specs.Prelude.{Contains, slice_get}
 use Rattle.pg_slice_rules.specs.Moments.{Moment, thread_in}
 use Rattle.pg_slice_rules.specs.Extents.{is_live}
-use Rattle.pg_slice_rules.specs.Known.{Reference, RunShadow, Seen, Taken, after_step, seen_from, seen_in, start_of, thread_of}
+use Rattle.pg_slice_rules.specs.Known.{Reference, SymbolicState, Seen, Taken, after_step, seen_from, seen_in, start_of, thread_of}
 use Rattle.pg_law_least.specs.Keeps.{ExtentsKeep, every, steps_of}
 use Rattle.pg_region_paths.proofs.Elements.{here, there}
 use Rattle.pg_law_least.proofs.KeptLikeness.{IsLink}
@@ -14,7 +14,7 @@ use Rattle.pg_law_least.proofs.AlikeAlongRuns.{step_like}
 use Rattle.pg_law_demands.specs.Along.{known_at, known_from}
 use Rattle.pg_law_demands.proofs.StepBack.{IsRun, of_every, seen_with}
 
-abbrev pub of_those : Reference → Taken → ℕ → Moment → RunShadow → Seen
+abbrev pub of_those : Reference → Taken → ℕ → Moment → SymbolicState → Seen
 of_those R e n m s = seen_with R n m (is_live e.pinned (thread_of s (thread_in m)).extents) s
 
 pub the_link : (e : Taken) (bound : ℕ) → IsLink e every bound (Likes every)
@@ -22,19 +22,19 @@ the_link e bound = likes_link e every bound (λ x h. in_every x)
 
 -- what is known before a step and behind it, its thread, and how many calls this is in
 pub record Standing : Type 0 where
-  pub s : RunShadow
-  pub after : RunShadow
+  pub s : SymbolicState
+  pub after : SymbolicState
   pub t : ℕ
   pub k : ℕ
 
-pub record At (R : Reference) (keeps : ExtentsKeep R) (e : Taken) (bound n : ℕ) (m : Moment) (s u : RunShadow) : Type 0 where
+pub record At (R : Reference) (keeps : ExtentsKeep R) (e : Taken) (bound n : ℕ) (m : Moment) (s u : SymbolicState) : Type 0 where
   pub like : IsRun R keeps e bound (Likes every) (the_link e bound) s u
   pub in_run : Contains (steps_of R) (of_every R n m u)
   pub in_those : Contains (seen_in R e) (of_those R e n m s)
   pub below : n < bound
 
 module _ (R : Reference) (keeps : ExtentsKeep R) (e : Taken) (bound : ℕ) where
-  at_from : (i n : ℕ) (s u : RunShadow) (ms : List Moment) → n + length ms ≤ bound → IsRun R keeps e bound (Likes every) (the_link e bound) s u →
+  at_from : (i n : ℕ) (s u : SymbolicState) (ms : List Moment) → n + length ms ≤ bound → IsRun R keeps e bound (Likes every) (the_link e bound) s u →
       ((z : Seen) → Contains (seen_from R every n u ms) z → Contains (steps_of R) z) → ((z : Seen) → Contains (seen_from R e n s ms) z → Contains (seen_in R e) z) → (m : Moment) →
       slice_get ms i ≡ Some m → At R keeps e bound (n + i) m (known_from R e n s (take i ms)) (known_from R every n u (take i ms))
   unfolding seen_from known_from
@@ -66,7 +66,7 @@ at_step R keeps e n m q =
     (at_from R keeps e (length R.moments) n 0 (start_of R.program) (start_of R.program) R.moments (omega arith)
     (start_like R keeps e every (length R.moments) (Likes every) (the_link e (length R.moments))) (λ z c. c) (λ z c. c) m q)
 
-pub next_step : (R : Reference) (d : Taken) (n k : ℕ) (s : RunShadow) (ms : List Moment) (m : Moment) → slice_get ms k ≡ Some m →
+pub next_step : (R : Reference) (d : Taken) (n k : ℕ) (s : SymbolicState) (ms : List Moment) (m : Moment) → slice_get ms k ≡ Some m →
     known_from R d n s (take (suc k) ms) ≡ after_step R d (n + k) m (known_from R d n s (take k ms))
 unfolding known_from
 next_step R d n zero s [] m e = absurd cc

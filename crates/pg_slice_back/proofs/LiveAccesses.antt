@@ -16,8 +16,8 @@ use Rattle.pg_run_trace.specs.declared.step.Access.{Access}
 use Rattle.pg_run_trace.specs.Steps.{range_of}
 use Rattle.pg_slice_rules.specs.Moments.{Moment}
 use Rattle.pg_slice_rules.specs.Freeable.{bounds_of}
-use Rattle.pg_slice_rules.specs.Shadows.{is_within}
-use Rattle.pg_slice_rules.specs.Known.{Reference, RunShadow, Taken}
+use Rattle.pg_slice_rules.specs.SymbolicValues.{is_within}
+use Rattle.pg_slice_rules.specs.Known.{Reference, SymbolicState, Taken}
 use Rattle.pg_slice_replay.specs.declared.run.ReferenceRun.{ReferenceRun}
 use Rattle.pg_law_demands.specs.Cells.{Demand, IsMet}
 use Rattle.pg_law_demands.specs.Back.{Asked, back_access, back_byte, back_other, back_store, back_top, byte_demand, caller_count, if_plain, if_set, is_target, of_bytes, of_value, only}
@@ -31,11 +31,11 @@ use Rattle.pg_slice_back.proofs.KnownBackOverSteps as live
 
 -- ---- a register that is set
 
-pub unset_first : (e : Taken) (s : RunShadow) (b : Bool) (q : Demand) (a : Asked) → b ≡ false → Asks e s (if_set b q a) → IsMet s q
+pub unset_first : (e : Taken) (s : SymbolicState) (b : Bool) (q : Demand) (a : Asked) → b ≡ false → Asks e s (if_set b q a) → IsMet s q
 unset_first e s false q a f h = h.0.0
 unset_first e s true q a f h = absurd (true≢false f)
 
-pub set_asks : (e : Taken) (s : RunShadow) (b : Bool) (q : Demand) (a : Asked) → b ≡ true → Asks e s (if_set b q a) → Asks e s a
+pub set_asks : (e : Taken) (s : SymbolicState) (b : Bool) (q : Demand) (a : Asked) → b ≡ true → Asks e s (if_set b q a) → Asks e s a
 set_asks e s true q a f h = h
 set_asks e s false q a f h = absurd (true≢false (sym f))
 
@@ -64,11 +64,11 @@ target_is o i q = subst (λ (z : Option ℕ). is_target z i ≡ true) (sym q) (e
 
 -- ---- a store
 
-plain_first : (e : Taken) (s : RunShadow) (n : ℕ) (v : Bool) (qs : List Demand) → Asks e s (if_plain v n qs) → AllByRecursion (IsMet s) qs
+plain_first : (e : Taken) (s : SymbolicState) (n : ℕ) (v : Bool) (qs : List Demand) → Asks e s (if_plain v n qs) → AllByRecursion (IsMet s) qs
 plain_first e s n true qs h = h.0
 plain_first e s n false qs h = h.0
 
-plain_fixed : (e : Taken) (s : RunShadow) (n : ℕ) (v : Bool) (qs : List Demand) → v ≡ false → Asks e s (if_plain v n qs) → e.exact n ≡ true
+plain_fixed : (e : Taken) (s : SymbolicState) (n : ℕ) (v : Bool) (qs : List Demand) → v ≡ false → Asks e s (if_plain v n qs) → e.exact n ≡ true
 plain_fixed e s n false qs f h = h.1.0
 plain_fixed e s n true qs f h = absurd (true≢false f)
 

@@ -5,7 +5,7 @@ use Rattle.std.specs.Prelude.{nat_le, nat_lt, slice_get}
 use Rattle.std.proofs.lemmas.Bool.{and_parts, true≢false, le-leb, lt-ltb}
 use Rattle.std.specs.List.{AllByRecursion}
 use Rattle.pg_slice_rules.specs.Rules.{all_of}
-use Rattle.pg_slice_rules.specs.Known.{RunShadow}
+use Rattle.pg_slice_rules.specs.Known.{SymbolicState}
 use Rattle.pg_law_demands.specs.Cells.{IsMet}
 use Rattle.pg_law_demands.specs.Back.{byte_demand, of_bytes, register_demand}
 use Rattle.pg_slice_demands.specs.declared.demanded.Demanded.{Demanded}
@@ -15,21 +15,21 @@ use Rattle.pg_slice_back.specs.Bytes.{is_in}
 use Rattle.pg_slice_back.specs.Met.{AreMet}
 use Rattle.pg_slice_back.specs.Leaves.{IsLess, Leaves, Without, none}
 
-pub without_met : (t k : ℕ) (sets writes : ℕ → Bool) (after before : RunShadow) (old new : Demanded) → Leaves t k sets writes after before → Without t k sets writes old new →
+pub without_met : (t k : ℕ) (sets writes : ℕ → Bool) (after before : SymbolicState) (old new : Demanded) → Leaves t k sets writes after before → Without t k sets writes old new →
     AreMet after old → AreMet before new
 without_met t k sets writes after before old new l w m = record {
   registers = λ i j r v q. let a = w.registers i j r v q in l.registers i j r v a.1 (m.registers i j r v a.0);
   bytes = λ b q. let a = w.bytes b q in l.bytes b a.1 (m.bytes b a.0);
 }
 
-pub less_met : (s : RunShadow) (old new : Demanded) → IsLess old new → AreMet s old → AreMet s new
+pub less_met : (s : SymbolicState) (old new : Demanded) → IsLess old new → AreMet s old → AreMet s new
 less_met s old new w m = record {
   registers = λ i j r v q. m.registers i j r v (w.registers i j r v q);
   bytes = λ b q. m.bytes b (w.bytes b q);
 }
 
 -- with one register more
-pub register_met : (s : RunShadow) (old new : Demanded) (t k r : ℕ) (w : Bool) → IsMet s (register_demand t k r w) →
+pub register_met : (s : SymbolicState) (old new : Demanded) (t k r : ℕ) (w : Bool) → IsMet s (register_demand t k r w) →
     ((u j i : ℕ) (v : Bool) → asked_of new u j i ≡ Some v → (asked_of old u j i ≡ Some v) ⊎ ((u ≡ t) × (j ≡ k) × (i ≡ r) × (v ≡ w))) →
     ((b : ℕ) → asks_byte new b ≡ true → asks_byte old b ≡ true) → AreMet s old → AreMet s new
 register_met s old new t k r w h f g m = record { registers = λ u j i v q. go u j i v (f u j i v q); bytes = λ b q. m.bytes b (g b q) }
@@ -39,7 +39,7 @@ register_met s old new t k r w h f g m = record { registers = λ u j i v q. go u
     go u j i v (inr q) = rw (q.0, q.1, q.2, q.3) h
 
 -- with one byte more
-pub byte_met : (s : RunShadow) (old new : Demanded) (byte : ℕ) → IsMet s (byte_demand byte true)
+pub byte_met : (s : SymbolicState) (old new : Demanded) (byte : ℕ) → IsMet s (byte_demand byte true)
     → ((u j i : ℕ) (v : Bool) → asked_of new u j i ≡ Some v → asked_of old u j i ≡ Some v) →
     ((b : ℕ) → asks_byte new b ≡ true → (asks_byte old b ≡ true) ⊎ (b ≡ byte)) → AreMet s old → AreMet s new
 byte_met s old new byte h f g m = record { registers = λ u j i v q. m.registers u j i v (f u j i v q); bytes = λ b q. go b (g b q) }
@@ -48,13 +48,13 @@ byte_met s old new byte h f g m = record { registers = λ u j i v q. m.registers
     go b (inl q) = m.bytes b q
     go b (inr q) = rw q h
 
-pub byte_of : (s : RunShadow) (at n i : ℕ) → i < n → AllByRecursion (IsMet s) (of_bytes at n) → IsMet s (byte_demand (at + i) true)
+pub byte_of : (s : SymbolicState) (at n i : ℕ) → i < n → AllByRecursion (IsMet s) (of_bytes at n) → IsMet s (byte_demand (at + i) true)
 byte_of s at zero i l h = absurd (omega (arith, l))
 byte_of s at (suc n) zero l h = let z : at + 0 ≡ at = omega arith in rw z h.0
 byte_of s at (suc n) (suc i) l h = let z : at + suc i ≡ at + 1 + i = omega arith in rw z (byte_of s (at + 1) n i (omega (arith, l)) h.1)
 
 -- what leaves fewer registers leaves more
-pub leaves_more : (t k : ℕ) (sets more writes : ℕ → Bool) (after before : RunShadow) → ((i : ℕ) → sets i ≡ true → more i ≡ true)
+pub leaves_more : (t k : ℕ) (sets more writes : ℕ → Bool) (after before : SymbolicState) → ((i : ℕ) → sets i ≡ true → more i ≡ true)
     → Leaves t k sets writes after before → Leaves t k more writes after before
 leaves_more t k sets more writes after before f l = record { registers = λ i j r w o. l.registers i j r w (λ a. o (a.0, go j r a.1)); bytes = l.bytes }
   where
@@ -62,7 +62,7 @@ leaves_more t k sets more writes after before f l = record { registers = λ i j 
     go j r (inl g) = inl g
     go j r (inr g) = inr (g.0, f r g.1)
 
-pub leaves_like : (t k : ℕ) (sets writes same : ℕ → Bool) (after before : RunShadow) → ((b : ℕ) → same b ≡ writes b)
+pub leaves_like : (t k : ℕ) (sets writes same : ℕ → Bool) (after before : SymbolicState) → ((b : ℕ) → same b ≡ writes b)
     → Leaves t k sets writes after before → Leaves t k sets same after before
 leaves_like t k sets writes same after before f l = record { registers = l.registers; bytes = λ b q. l.bytes b (sym (f b) ∙ q) }
 

@@ -7,7 +7,7 @@ use Rattle.pg_num.specs.Places.{ByteRange}
 use Rattle.pg_region_paths.specs.declared.path.Root.{Root}
 use Rattle.pg_region_paths.specs.declared.path.Root.TheVariants as root
 use Rattle.pg_slice_rules.specs.Freeable.{FreeRegion}
-use Rattle.pg_slice_rules.specs.Known.{RunShadow, Seen}
+use Rattle.pg_slice_rules.specs.Known.{SymbolicState, Seen}
 use Rattle.pg_slice_rules.specs.Moments.{thread_in}
 use Rattle.pg_law_least.specs.Keeps.{depth_of}
 use Rattle.pg_slice_replay.specs.declared.run.FreeAccess as declared
@@ -20,7 +20,7 @@ use Rattle.pg_law_demands.specs.Demands.{path_demands, root_demands}
 use Rattle.pg_slice_back.specs.Cells.{AreCellsMet}
 use Rattle.pg_slice_back.proofs.NeedsBackOverSteps.{all_left, all_right}
 
-pub root_is : (s : RunShadow) (y : Seen) (o : Root) (r : ℕ) (whole : Bool) (t k : ℕ) → o ≡ root.Register r → thread_in y.moment ≡ t
+pub root_is : (s : SymbolicState) (y : Seen) (o : Root) (r : ℕ) (whole : Bool) (t k : ℕ) → o ≡ root.Register r → thread_in y.moment ≡ t
     → depth_of y ≡ k → AllByRecursion (IsMet s) (root_demands y o whole) →
     IsMet s (register_demand t k r whole)
 root_is s y o r whole t k q a b h =
@@ -28,21 +28,21 @@ root_is s y o r whole t k q a b h =
     subst (λ (t : ℕ). IsMet s (register_demand t k r whole)) a (subst (λ (k : ℕ). IsMet s (register_demand (thread_in y.moment) k r whole)) b z.0)
 
 -- the root, whole where the path loads
-pub path_root : (s : RunShadow) (word : Bool → List Demand) (ks ws : List ℕ) → length ks ≤ length ws → AllByRecursion (IsMet s) (path_demands word ks ws (cells_of ws ks)) →
+pub path_root : (s : SymbolicState) (word : Bool → List Demand) (ks ws : List ℕ) → length ks ≤ length ws → AllByRecursion (IsMet s) (path_demands word ks ws (cells_of ws ks)) →
     AllByRecursion (IsMet s) (word (nat_lt 0 (length ks)))
 path_root s word [] ws l h = h
 path_root s word (k ∷ ks) [] l h = absurd (omega (arith, l))
 path_root s word (k ∷ ks) (w ∷ ws) l h =
     rw (lt-ltb 0 (suc (length ks)) (omega arith)) (all_left (IsMet s) (word true) (path_demands (λ whole. of_bytes (cell_of w k).start 8) ks ws (cells_of ws ks)) h)
 
-first_cell : (s : RunShadow) (qs : List Demand) (ks ws : List ℕ) (cells : List ByteRange) → AllByRecursion (IsMet s) (path_demands (λ whole. qs) ks ws cells) → AllByRecursion (IsMet s) qs
+first_cell : (s : SymbolicState) (qs : List Demand) (ks ws : List ℕ) (cells : List ByteRange) → AllByRecursion (IsMet s) (path_demands (λ whole. qs) ks ws cells) → AllByRecursion (IsMet s) qs
 first_cell s qs [] ws cells h = h
 first_cell s qs (k ∷ ks) [] cells h = h
 first_cell s qs (k ∷ ks) (w ∷ ws) [] h = h
 first_cell s qs (k ∷ ks) (w ∷ ws) (c ∷ cells) h = all_left (IsMet s) qs (path_demands (λ whole. of_bytes c.start 8) ks ws cells) h
 
 -- and the cells from which it loads
-pub path_cells : (s : RunShadow) (word : Bool → List Demand) (ks ws : List ℕ) → AllByRecursion (IsMet s) (path_demands word ks ws (cells_of ws ks)) → AreCellsMet s ws ks
+pub path_cells : (s : SymbolicState) (word : Bool → List Demand) (ks ws : List ℕ) → AllByRecursion (IsMet s) (path_demands word ks ws (cells_of ws ks)) → AreCellsMet s ws ks
 path_cells s word [] ws h i w k p q = absurd cc
 path_cells s word (c ∷ ks) [] h i w k p q = absurd cc
 path_cells s word (c ∷ ks) (v ∷ ws) h zero w k p q =

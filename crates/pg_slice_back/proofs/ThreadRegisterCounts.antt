@@ -16,7 +16,7 @@ use Rattle.pg_run_trace.specs.declared.step.StepKind.TheVariants as kinds
 use Rattle.pg_slice_rules.specs.Moments.{Moment, instr_in, thread_in}
 use Rattle.pg_slice_rules.specs.Freeable.{FreeRegion}
 use Rattle.pg_slice_rules.specs.Extents.{is_live}
-use Rattle.pg_slice_rules.specs.Known.{Reference, RunShadow, ThreadShadow, after_step, no_thread, region_of, thread_of}
+use Rattle.pg_slice_rules.specs.Known.{Reference, SymbolicState, SymbolicThread, after_step, no_thread, region_of, thread_of}
 use Rattle.pg_law_least.specs.Keeps.{every}
 use Rattle.pg_law_least.proofs.OldestFreeExtent.{live_every}
 use Rattle.pg_law_least.proofs.ThreadsAfterSteps.{calls_after, length_next, made_at, made_by, made_in, own_calls, own_made, thread_made, thread_other, thread_own}
@@ -26,15 +26,15 @@ use Rattle.pg_slice_back.specs.Lens.{lens_by_kind, lens_made, lens_made_by, lens
 use Rattle.pg_slice_back.specs.Stacks.{AreStacks, IsStack}
 use Rattle.pg_slice_back.proofs.CallRegisterCounts.{kind_lens}
 
-made_lens_by : (p : NumberedProgram) (e : Event) (kind : TurnKind) → map (λ (h : ThreadShadow). lens_of h.calls) (made_by p e kind) ≡ lens_made_by p e kind
+made_lens_by : (p : NumberedProgram) (e : Event) (kind : TurnKind) → map (λ (h : SymbolicThread). lens_of h.calls) (made_by p e kind) ≡ lens_made_by p e kind
 made_lens_by p e turns.Create = ap (λ (l : ℕ). (l ∷ []) ∷ []) (length-replicate (length (types_of p _)) _)
 made_lens_by p e _ = refl
 
-made_lens : (p : NumberedProgram) (kind : StepKind) → map (λ (h : ThreadShadow). lens_of h.calls) (made_in p kind) ≡ lens_made p kind
+made_lens : (p : NumberedProgram) (kind : StepKind) → map (λ (h : SymbolicThread). lens_of h.calls) (made_in p kind) ≡ lens_made p kind
 made_lens p (kinds.Event e) = made_lens_by p e e.kind
 made_lens p _ = refl
 
-lens_at : (hs : List ThreadShadow) (i : ℕ) → lens_of (slice_index_or hs i no_thread).calls ≡ slice_index_or (map (λ (h : ThreadShadow). lens_of h.calls) hs) i []
+lens_at : (hs : List SymbolicThread) (i : ℕ) → lens_of (slice_index_or hs i no_thread).calls ≡ slice_index_or (map (λ (h : SymbolicThread). lens_of h.calls) hs) i []
 lens_at [] i = refl
 lens_at (h ∷ hs) zero = refl
 lens_at (h ∷ hs) (suc i) = lens_at hs i
@@ -43,7 +43,7 @@ long_map : {A B : Type 0} (f : A → B) (xs : List A) → length (map f xs) ≡ 
 long_map f [] = refl
 long_map f (x ∷ xs) = ap suc (long_map f xs)
 
-module _ (R : Reference) (n : ℕ) (m : Moment) (s : RunShadow) (x : Instr) (stands : instr_in R.program m ≡ Some x) (begun : thread_in m < length s.threads) where
+module _ (R : Reference) (n : ℕ) (m : Moment) (s : SymbolicState) (x : Instr) (stands : instr_in R.program m ≡ Some x) (begun : thread_in m < length s.threads) where
   abbrev t : ℕ
   t = thread_in m
 
@@ -52,7 +52,7 @@ module _ (R : Reference) (n : ℕ) (m : Moment) (s : RunShadow) (x : Instr) (sta
 
   own_lens : lens_of (thread_of (after_step R every n m s) t).calls ≡ lens_by_kind R.program x.op m.did.did.kind (lens_of (thread_of s t).calls)
   own_lens =
-      ap (λ (h : ThreadShadow). lens_of h.calls) (thread_own R every n m s begun)
+      ap (λ (h : SymbolicThread). lens_of h.calls) (thread_own R every n m s begun)
       ∙ ap (λ (b : Bool). lens_of (own_calls R.program every n m region s b (instr_in R.program m))) (live_every (thread_of s t).extents)
       ∙ ap (λ (o : Option Instr). lens_of (calls_after R.program every n m region o s (thread_of s t).calls)) stands
       ∙ kind_lens R.program every n m region s x m.did.did.kind (thread_of s t).calls
@@ -65,14 +65,14 @@ module _ (R : Reference) (n : ℕ) (m : Moment) (s : RunShadow) (x : Instr) (sta
   pub threads_now : length (after_step R every n m s).threads ≡ length s.threads + length (lens_made R.program m.did.did.kind)
   threads_now =
       length_next R every n m s
-      ∙ ap (λ (hs : List ThreadShadow). length s.threads + length hs) made_now
-      ∙ ap (λ (l : ℕ). length s.threads + l) (sym (long_map (λ (h : ThreadShadow). lens_of h.calls) (made_in R.program m.did.did.kind)) ∙ ap length (made_lens R.program m.did.did.kind))
+      ∙ ap (λ (hs : List SymbolicThread). length s.threads + length hs) made_now
+      ∙ ap (λ (l : ℕ). length s.threads + l) (sym (long_map (λ (h : SymbolicThread). lens_of h.calls) (made_in R.program m.did.did.kind)) ∙ ap length (made_lens R.program m.did.did.kind))
 
   other_lens : (u : ℕ) → (u ≡ t → ⊥) → length s.threads ≤ u →
       lens_of (thread_of (after_step R every n m s) u).calls ≡ slice_index_or (lens_made R.program m.did.did.kind) (u - length s.threads) []
   other_lens u o l =
-      ap (λ (h : ThreadShadow). lens_of h.calls) (thread_made R every n m s u o l)
-      ∙ ap (λ (hs : List ThreadShadow). lens_of (slice_index_or hs (u - length s.threads) no_thread).calls) made_now
+      ap (λ (h : SymbolicThread). lens_of h.calls) (thread_made R every n m s u o l)
+      ∙ ap (λ (hs : List SymbolicThread). lens_of (slice_index_or hs (u - length s.threads) no_thread).calls) made_now
       ∙ lens_at (made_in R.program m.did.did.kind) (u - length s.threads)
       ∙ ap (λ (ls : List (List ℕ)). slice_index_or ls (u - length s.threads) []) (made_lens R.program m.did.did.kind)
 
@@ -103,7 +103,7 @@ module _ (R : Reference) (n : ℕ) (m : Moment) (s : RunShadow) (x : Instr) (sta
           apart : (u < length s.threads) ⊎ (length s.threads ≤ u) → IsStack new.held.items (slice_index_or new.tops.items u 0) (lens_of (thread_of (after_step R every n m s) u).calls)
           apart (inl l) =
               let q : u < length old.tops.items = subst (λ (i : ℕ). u < i) (sym a.as_many) l in
-              subst (λ (h : ThreadShadow). IsStack new.held.items (slice_index_or new.tops.items u 0) (lens_of h.calls)) (sym (thread_other R every n m s u differ l))
+              subst (λ (h : SymbolicThread). IsStack new.held.items (slice_index_or new.tops.items u 0) (lens_of h.calls)) (sym (thread_other R every n m s u differ l))
               (subst (λ (h : ℕ). IsStack new.held.items h (lens_of (thread_of s u).calls)) (sym (others u differ q)) (kept _ _ (a.stacks u)))
           apart (inr l) =
               let q : length old.tops.items ≤ u = subst (λ (i : ℕ). i ≤ u) (sym a.as_many) l in
@@ -131,7 +131,7 @@ set_length : (xs : List ℕ) (i x : ℕ) → length (slice_set xs i x) ≡ lengt
 set_length xs i x = length-set xs i x
 
 -- the calls after a step, as they are kept
-pub pass_is : (R : Reference) (n : ℕ) (m : Moment) (s : RunShadow) (x : Instr) → instr_in R.program m ≡ Some x → thread_in m < length s.threads
+pub pass_is : (R : Reference) (n : ℕ) (m : Moment) (s : SymbolicState) (x : Instr) → instr_in R.program m ≡ Some x → thread_in m < length s.threads
     → (p : NumberedProgram) → R.program ≡ p → (kind : StepKind) → m.did.did.kind ≡ kind →
     (old new : Calls) (held : List Held) (tops : List ℕ) (thread before top : ℕ) → thread ≡ thread_in m → before ≡ slice_index_or old.tops.items thread 0 →
     ((h : ℕ) (ls : List ℕ) → IsStack old.held.items h ls → IsStack held h ls) → ((ls : List ℕ) → IsStack old.held.items before ls → IsStack held top (lens_by_kind p x.op kind ls)) →

@@ -1,13 +1,13 @@
 -- How many registers the calls of the steps of a run have.
 use Rattle.std.specs.Prelude.{◌≡◌, ◌<◌, ℕ, List, length, Some, slice_get}
-use Rattle.pg_slice_rules.specs.Known.{Reference, RunShadow, registers_of, thread_of, top_of, under_top}
+use Rattle.pg_slice_rules.specs.Known.{Reference, SymbolicState, registers_of, thread_of, top_of, under_top}
 use Rattle.pg_slice_rules.specs.Moments.{Moment, thread_in}
 use Rattle.pg_law_least.specs.Keeps.{every}
 use Rattle.pg_law_demands.specs.Along.{known_at}
 use Rattle.pg_slice_back.specs.declared.registers.Counts.{Counts}
 
 -- of the present call of a thread, and of the call under it
-pub record AreCountsOf (s : RunShadow) (t : ℕ) (c : Counts) : Type 0 where
+pub record AreCountsOf (s : SymbolicState) (t : ℕ) (c : Counts) : Type 0 where
   pub present : c.present ≡ length (registers_of s t)
   pub under : c.under ≡ length (top_of (under_top (thread_of s t).calls))
 

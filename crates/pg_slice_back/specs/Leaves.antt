@@ -1,6 +1,6 @@
 -- What a step leaves of what is known.
 use Rattle.std.specs.Prelude.{◌≡◌, ◌<◌, ◌⊎◌, ℕ, Bool, true, false, Some}
-use Rattle.pg_slice_rules.specs.Known.{RunShadow}
+use Rattle.pg_slice_rules.specs.Known.{SymbolicState}
 use Rattle.pg_law_demands.specs.Cells.{IsMet}
 use Rattle.pg_law_demands.specs.Back.{byte_demand, register_demand}
 use Rattle.pg_slice_demands.specs.declared.demanded.Demanded.{Demanded}
@@ -11,7 +11,7 @@ abbrev pub IsAbove : ℕ → ℕ → (ℕ → Bool) → ℕ → ℕ → ℕ → 
 IsAbove t k sets i j r = (i ≡ t) × ((k < j) ⊎ ((j ≡ k) × (sets r ≡ true)))
 
 -- what is known after a step of all but such registers, and of all bytes but these, was known before it
-pub record Leaves (t k : ℕ) (sets writes : ℕ → Bool) (after before : RunShadow) : Type 0 where
+pub record Leaves (t k : ℕ) (sets writes : ℕ → Bool) (after before : SymbolicState) : Type 0 where
   pub registers : (i j r : ℕ) (w : Bool) → (IsAbove t k sets i j r → ⊥) → IsMet after (register_demand i j r w) → IsMet before (register_demand i j r w)
   pub bytes : (b : ℕ) → writes b ≡ false → IsMet after (byte_demand b true) → IsMet before (byte_demand b true)
 

@@ -8,10 +8,10 @@ use Rattle.pg_run_trace.specs.declared.turn.TurnKind.TheVariants as turns
 use Rattle.pg_run_trace.specs.declared.step.Event.{Event}
 use Rattle.pg_run_trace.specs.declared.step.StepKind.{StepKind}
 use Rattle.pg_run_trace.specs.declared.step.StepKind.TheVariants as kinds
-use Rattle.pg_slice_rules.specs.Shadows.{Shadow}
+use Rattle.pg_slice_rules.specs.SymbolicValues.{Symbolic}
 
-abbrev pub lens_of : List (List Shadow) → List ℕ
-lens_of cs = map (λ (rs : List Shadow). length rs) cs
+abbrev pub lens_of : List (List Symbolic) → List ℕ
+lens_of cs = map (λ (rs : List Symbolic). length rs) cs
 
 abbrev pub rest_of : List ℕ → List ℕ
 rest_of [] = []

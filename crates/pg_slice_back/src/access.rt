@@ -3,8 +3,8 @@
 ghost use Rattle.std.specs.Prelude.{◌≡◌, ◌<◌, ◌||◌, ℕ, Bool, true, false, Some, IfOk, IfSome, OnOk};
 ghost use Rattle.std.specs.List.{AllByRecursion};
 ghost use Rattle.pg_slice_rules.specs.Freeable.{bounds_of};
-ghost use Rattle.pg_slice_rules.specs.Known.{RunShadow, Taken, has};
-ghost use Rattle.pg_slice_rules.specs.Shadows.{is_within};
+ghost use Rattle.pg_slice_rules.specs.Known.{SymbolicState, Taken, has};
+ghost use Rattle.pg_slice_rules.specs.SymbolicValues.{is_within};
 ghost use Rattle.pg_run_trace.specs.Steps.{range_of};
 ghost use Rattle.pg_slice_decisions.specs.Steps.{step_of};
 ghost use Rattle.pg_law_demands.specs.Cells.{IsMet};
@@ -26,7 +26,7 @@ use std::alloc::AllocError;
 /// So many bytes from one on have to be known.
 pub(crate) fn put_bytes(w: &mut Demanded, start: u64, count: u8) -> Result<(), AllocError>
     requires { start < 4294967296 }
-    ensures { OnOk result ((s : RunShadow) → AreMet s w.old → AllByRecursion (IsMet s) (of_bytes start count) → AreMet s w.new) }
+    ensures { OnOk result ((s : SymbolicState) → AreMet s w.old → AllByRecursion (IsMet s) (of_bytes start count) → AreMet s w.new) }
 {
     for i in 0..count {
         w.put_byte(start + i as u64)?;
@@ -45,7 +45,7 @@ fn back_loaded(
 ) -> Result<bool, AllocError>
     requires { start < 4294967296 }
     ensures asked { IfOk result (λ b. b ≡ true → (r : ℕ) × (v : Bool) × (target ≡ Some r) × (asked_of w.old at.thread at.depth r ≡ Some v)) }
-    ensures met { OnOk result ((after before : RunShadow) → Leaves at.thread at.depth (is_target target) none after before
+    ensures met { OnOk result ((after before : SymbolicState) → Leaves at.thread at.depth (is_target target) none after before
         → ((r : ℕ) (v : Bool) → target ≡ Some r → IsMet after (register_demand at.thread at.depth r v) → AllByRecursion (IsMet before) (of_bytes start count))
         → AreMet after w.old → AreMet before w.new) }
 {
@@ -68,7 +68,7 @@ pub(crate) fn back_load(
     n: usize,
 ) -> Result<Option<Decision>, AllocError>
     ensures step { IfOk result (λ o. IfSome o (λ z. step_of z ≡ n)) }
-    ensures met { IfOk result (λ o. (e : Taken) (after before : RunShadow) → Leaves at.thread at.depth (is_target target) none after before
+    ensures met { IfOk result (λ o. (e : Taken) (after before : SymbolicState) → Leaves at.thread at.depth (is_target target) none after before
         → ((r : ℕ) (v : Bool) → target ≡ Some r → IsMet after (register_demand at.thread at.depth r v)
         → AllByRecursion (IsMet before) (of_bytes (range_of a).start a.bytes) × (e.exact n ≡ true))
         → AreMet after w.old → AreMet before w.new × IfSome o (λ z. has e z ≡ true)) }
@@ -94,7 +94,7 @@ fn stored(w: &Demanded, own: Bytes, bounds: Bytes) -> Option<u64>
 /// That a store is exact, where it is no event and a byte has to be known that it may have written.
 fn store_fixed(w: &Demanded, a: Access, n: usize) -> Option<Decision>
     ensures step { IfSome result (λ z. step_of z ≡ n) }
-    ensures fixed { (e : Taken) (after : RunShadow)
+    ensures fixed { (e : Taken) (after : SymbolicState)
         → ((b : ℕ) → (is_within (range_of a) b || is_within (bounds_of a.pointer) b) ≡ true → a.event ≡ false → IsMet after (byte_demand b true)
         → e.exact n ≡ true)
         → AreMet after w.now → IfSome result (λ z. has e z ≡ true) }
@@ -110,7 +110,7 @@ fn store_fixed(w: &Demanded, a: Access, n: usize) -> Option<Decision>
 
 /// Back over a store of a value at some bytes: what is asked of these is asked of the value.
 fn back_stored(w: &mut Demanded, at: Call, value: Value, own: Bytes) -> Result<(), AllocError>
-    ensures { OnOk result ((after before : RunShadow) → Leaves at.thread at.depth none (is_in own) after before
+    ensures { OnOk result ((after before : SymbolicState) → Leaves at.thread at.depth none (is_in own) after before
         → ((b : ℕ) → is_in own b ≡ true → IsMet after (byte_demand b true) → AllByRecursion (IsMet before) (of_value at.thread at.depth true value))
         → AreMet after w.old → AreMet before w.new) }
 {
@@ -134,7 +134,7 @@ pub(crate) fn back_store(
     n: usize,
 ) -> Result<Option<Decision>, AllocError>
     ensures step { IfOk result (λ o. IfSome o (λ z. step_of z ≡ n)) }
-    ensures met { IfOk result (λ o. (e : Taken) (after before : RunShadow) → Leaves at.thread at.depth none (is_within (range_of a)) after before
+    ensures met { IfOk result (λ o. (e : Taken) (after before : SymbolicState) → Leaves at.thread at.depth none (is_within (range_of a)) after before
         → ((b : ℕ) → is_within (range_of a) b ≡ true → IsMet after (byte_demand b true) → AllByRecursion (IsMet before) (of_value at.thread at.depth true value))
         → ((b : ℕ) → (is_within (range_of a) b || is_within (bounds_of a.pointer) b) ≡ true → a.event ≡ false → IsMet after (byte_demand b true) → e.exact n ≡ true)
         → AreMet after w.old → AreMet before w.new × IfSome o (λ z. has e z ≡ true)) }

@@ -5,7 +5,7 @@ ghost use Rattle.std.specs.List.{AllByRecursion};
 ghost use Rattle.pg_run_thread.specs.Operands.{operands_of};
 ghost use Rattle.pg_run_trace.specs.declared.step.StepKind.TheVariants as kinds;
 ghost use Rattle.pg_run_trace.specs.Steps.{access_by};
-ghost use Rattle.pg_slice_rules.specs.Known.{RunShadow, Seen};
+ghost use Rattle.pg_slice_rules.specs.Known.{SymbolicState, Seen};
 ghost use Rattle.pg_slice_rules.specs.Moments.{thread_in};
 ghost use Rattle.pg_slice_rules.specs.Rules as rules;
 ghost use Rattle.pg_slice_rules.specs.Rules.{all_of};
@@ -51,7 +51,7 @@ pub(crate) fn put_argument(
     i: usize,
     whole: bool,
 ) -> Result<(), AllocError>
-    ensures { OnOk result ((s : RunShadow) → AllByRecursion (IsMet s) (of_operand at.thread at.depth whole op.now i) → AreMet s w.old → AreMet s w.new) }
+    ensures { OnOk result ((s : SymbolicState) → AllByRecursion (IsMet s) (of_operand at.thread at.depth whole op.now i) → AreMet s w.old → AreMet s w.new) }
 {
     put_optional(w, at, argument(op, i), whole)?;
     Ok(())
@@ -59,7 +59,7 @@ pub(crate) fn put_argument(
 
 /// The operands of an event that are checked have to be known.
 fn put_checked(w: &mut Demanded, at: Call, x: &Instr) -> Result<(), AllocError>
-    ensures { OnOk result ((s : RunShadow) (y : Seen) → thread_in y.moment ≡ at.thread → depth_of y ≡ at.depth
+    ensures { OnOk result ((s : SymbolicState) (y : Seen) → thread_in y.moment ≡ at.thread → depth_of y ≡ at.depth
         → AllByRecursion (IsMet s) (all_of (operand_demands y x.now true) (rules.checked_of x.now.op))
         → AreMet s w.old → AreMet s w.new) }
 {
@@ -81,7 +81,7 @@ fn is_start(kind: TurnKind) -> bool
 
 /// What an event asks that calls a function: a start asks for nothing.
 fn put_called(w: &mut Demanded, at: Call, x: &Instr, kind: TurnKind) -> Result<(), AllocError>
-    ensures { OnOk result ((s : RunShadow) (y : Seen) → thread_in y.moment ≡ at.thread → depth_of y ≡ at.depth
+    ensures { OnOk result ((s : SymbolicState) (y : Seen) → thread_in y.moment ≡ at.thread → depth_of y ≡ at.depth
         → AllByRecursion (IsMet s) (checked_demands y x.now kind) → AreMet s w.old → AreMet s w.new) }
 {
     if is_start(kind) {
@@ -114,7 +114,7 @@ fn put_written(
     x: &Instr,
     write: Option<Write>,
 ) -> Result<(), AllocError>
-    ensures { OnOk result ((s : RunShadow) (y : Seen) → thread_in y.moment ≡ at.thread → depth_of y ≡ at.depth
+    ensures { OnOk result ((s : SymbolicState) (y : Seen) → thread_in y.moment ≡ at.thread → depth_of y ≡ at.depth
         → AllByRecursion (IsMet s) (write_demands y x.now (access_by write)) → AreMet s w.old → AreMet s w.new) }
 {
     match write {
@@ -128,7 +128,7 @@ fn put_written(
 
 /// What an event asks: its operands that are checked, and the bounds of the address to which it writes.
 pub(crate) fn put_event(w: &mut Demanded, at: Call, x: &Instr, e: &Event) -> Result<(), AllocError>
-    ensures { OnOk result ((d : Taken) (s : RunShadow) (y : Seen) → thread_in y.moment ≡ at.thread → depth_of y ≡ at.depth
+    ensures { OnOk result ((d : Taken) (s : SymbolicState) (y : Seen) → thread_in y.moment ≡ at.thread → depth_of y ≡ at.depth
         → AllByRecursion (IsMet s) (kind_demands d y x.now (kinds.Event e.now))
         → AreMet s w.old → AreMet s w.new) }
 {
@@ -139,7 +139,7 @@ pub(crate) fn put_event(w: &mut Demanded, at: Call, x: &Instr, e: &Event) -> Res
 
 /// What an allocation asks: the size of a `malloc`.
 pub(crate) fn put_size(w: &mut Demanded, at: Call, op: &Op) -> Result<(), AllocError>
-    ensures { OnOk result ((s : RunShadow) → AllByRecursion (IsMet s) (if rules.is_malloc op.now then of_operand at.thread at.depth true op.now 0 else []) → AreMet s w.old → AreMet s w.new) }
+    ensures { OnOk result ((s : SymbolicState) → AllByRecursion (IsMet s) (if rules.is_malloc op.now then of_operand at.thread at.depth true op.now 0 else []) → AreMet s w.old → AreMet s w.new) }
 {
     if is_malloc(op) {
         put_argument(w, at, op, 0, true)?;

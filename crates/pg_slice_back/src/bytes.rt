@@ -2,7 +2,7 @@
 
 ghost use Rattle.std.specs.Prelude.{◌≡◌, ◌<◌, ℕ};
 ghost use Rattle.pg_slice_rules.specs.Freeable.{bounds_of};
-ghost use Rattle.pg_slice_rules.specs.Shadows.{is_within};
+ghost use Rattle.pg_slice_rules.specs.SymbolicValues.{is_within};
 ghost use Rattle.pg_run_trace.specs.Steps.{range_of};
 ghost use Rattle.pg_slice_back.specs.Bytes.{is_in};
 

@@ -2,7 +2,7 @@
 
 ghost use Rattle.std.specs.Prelude.{◌≡◌, ◌<◌, ◌≤◌, ◌+◌, ◌-◌, ℕ, List, [], ◌∷◌, Some, IfOk, OnOk, length, slice_index_or, slice_set};
 ghost use Rattle.pg_ir.specs.Program.{types_of};
-ghost use Rattle.pg_slice_rules.specs.Known.{Reference, RunShadow, after_step, registers_of, start_of, thread_of, top_of, under_top};
+ghost use Rattle.pg_slice_rules.specs.Known.{Reference, SymbolicState, after_step, registers_of, start_of, thread_of, top_of, under_top};
 ghost use Rattle.pg_slice_rules.specs.Moments.{Moment, instr_in, thread_in};
 ghost use Rattle.pg_law_least.specs.Keeps.{every};
 ghost use Rattle.pg_slice_back.specs.Lens.{first_of, lens_by_kind, lens_made, lens_some, rest_of};
@@ -101,14 +101,14 @@ impl Calls {
 
     /// How many registers the present call of a thread has.
     pub(crate) fn count(&self, t: usize) -> usize
-        ensures { (s : RunShadow) → AreStacks self.now s → result ≡ length (registers_of s t) }
+        ensures { (s : SymbolicState) → AreStacks self.now s → result ≡ length (registers_of s t) }
     {
         count_of(self.held.as_slice(), top_at(self.tops.as_slice(), t))
     }
 
     /// How many registers the call under the present one of a thread has.
     pub(crate) fn under(&self, t: usize) -> usize
-        ensures { (s : RunShadow) → AreStacks self.now s → result ≡ length (top_of (under_top (thread_of s t).calls)) }
+        ensures { (s : SymbolicState) → AreStacks self.now s → result ≡ length (top_of (under_top (thread_of s t).calls)) }
     {
         let top = under(self.held.as_slice(), top_at(self.tops.as_slice(), t));
         count_of(self.held.as_slice(), top)
@@ -120,7 +120,7 @@ impl Calls {
     ///
     /// Where no memory is left. Nothing is said of the calls then.
     pub(crate) fn pass(&mut self, p: &Program, x: &Instr, step: &Step) -> Result<(), AllocError>
-        ensures { OnOk result ((R : Reference) (n : ℕ) (m : Moment) (s : RunShadow) → R.program ≡ p.now → instr_in R.program m ≡ Some x.now → m.did.did ≡ step.now
+        ensures { OnOk result ((R : Reference) (n : ℕ) (m : Moment) (s : SymbolicState) → R.program ≡ p.now → instr_in R.program m ≡ Some x.now → m.did.did ≡ step.now
             → thread_in m < length s.threads → AreStacks self.old s → AreStacks self.new (after_step R every n m s)) }
     {
         let t = step.thread.0 as usize;

@@ -4,7 +4,7 @@ ghost use Rattle.std.specs.Prelude.{◌≡◌, ◌<◌, ◌-◌, ◌∷◌, ℕ,
 ghost use Rattle.std.specs.List.{AllByRecursion};
 ghost use Rattle.pg_ir.specs.declared.value.Value.{Value as AValue};
 ghost use Rattle.pg_ir.specs.declared.instr.Op.TheVariants.{Gep};
-ghost use Rattle.pg_slice_rules.specs.Known.{RunShadow};
+ghost use Rattle.pg_slice_rules.specs.Known.{SymbolicState};
 ghost use Rattle.pg_law_demands.specs.Cells.{IsMet};
 ghost use Rattle.pg_law_demands.specs.Back.{back_moved, is_target, of_optional, of_value, of_values, register_demand};
 ghost use Rattle.pg_slice_demands.specs.Asked.{asked_of};
@@ -25,7 +25,7 @@ pub(crate) fn put_value(
     value: Value,
     whole: bool,
 ) -> Result<(), AllocError>
-    ensures { OnOk result ((s : RunShadow) → AreMet s w.old → AllByRecursion (IsMet s) (of_value at.thread at.depth whole value) → AreMet s w.new) }
+    ensures { OnOk result ((s : SymbolicState) → AreMet s w.old → AllByRecursion (IsMet s) (of_value at.thread at.depth whole value) → AreMet s w.new) }
 {
     match value {
         Value::Register(register) => w.put_register(at.thread, at.depth, register, whole),
@@ -44,7 +44,7 @@ pub(crate) fn put_optional(
     value: Option<Value>,
     whole: bool,
 ) -> Result<(), AllocError>
-    ensures { OnOk result ((s : RunShadow) → AreMet s w.old → AllByRecursion (IsMet s) (of_optional at.thread at.depth whole value) → AreMet s w.new) }
+    ensures { OnOk result ((s : SymbolicState) → AreMet s w.old → AllByRecursion (IsMet s) (of_optional at.thread at.depth whole value) → AreMet s w.new) }
 {
     match value {
         Some(value) => put_value(w, at, value, whole),
@@ -62,7 +62,7 @@ fn value_at(values: &[Value], i: usize) -> Value
 
 /// The values of a list have to be known.
 fn put_values(w: &mut Demanded, at: Call, values: &[Value]) -> Result<(), AllocError>
-    ensures { OnOk result ((s : RunShadow) → AreMet s w.old → AllByRecursion (IsMet s) (of_values at.thread at.depth values.now) → AreMet s w.new) }
+    ensures { OnOk result ((s : SymbolicState) → AreMet s w.old → AllByRecursion (IsMet s) (of_values at.thread at.depth values.now) → AreMet s w.new) }
 {
     for i in 0..values.len() {
         put_value(w, at, value_at(values, i), true)?;
@@ -100,7 +100,7 @@ fn index_at(indices: &[Index], i: usize) -> Value
 
 /// The indices of a `getelementptr` have to be known.
 fn put_indices(w: &mut Demanded, at: Call, indices: &[Index]) -> Result<(), AllocError>
-    ensures { OnOk result ((s : RunShadow) → AreMet s w.old → AllByRecursion (IsMet s) (of_values at.thread at.depth (index_values indices.now)) → AreMet s w.new) }
+    ensures { OnOk result ((s : SymbolicState) → AreMet s w.old → AllByRecursion (IsMet s) (of_values at.thread at.depth (index_values indices.now)) → AreMet s w.new) }
 {
     for i in 0..indices.len() {
         put_value(w, at, index_at(indices, i), true)?;
@@ -110,7 +110,7 @@ fn put_indices(w: &mut Demanded, at: Call, indices: &[Index]) -> Result<(), Allo
 
 /// All operands of a `getelementptr` have to be known.
 fn put_both(w: &mut Demanded, at: Call, base: Value, indices: &[Index]) -> Result<(), AllocError>
-    ensures { OnOk result ((s : RunShadow) → AreMet s w.old → AllByRecursion (IsMet s) (of_values at.thread at.depth (base ∷ index_values indices.now)) → AreMet s w.new) }
+    ensures { OnOk result ((s : SymbolicState) → AreMet s w.old → AllByRecursion (IsMet s) (of_values at.thread at.depth (base ∷ index_values indices.now)) → AreMet s w.new) }
 {
     put_value(w, at, base, true)?;
     put_indices(w, at, indices)?;
@@ -125,7 +125,7 @@ fn put_moved(
     indices: &[Index],
     whole: bool,
 ) -> Result<(), AllocError>
-    ensures { OnOk result ((s : RunShadow) → AreMet s w.old → AllByRecursion (IsMet s) (back_moved at.thread at.depth (Gep base indices.now) whole) → AreMet s w.new) }
+    ensures { OnOk result ((s : SymbolicState) → AreMet s w.old → AllByRecursion (IsMet s) (back_moved at.thread at.depth (Gep base indices.now) whole) → AreMet s w.new) }
 {
     if whole {
         put_both(w, at, base, indices)?;
@@ -138,7 +138,7 @@ fn put_moved(
 
 /// The operands have to be known of an operation that computes, for its result to be known.
 fn put_operands(w: &mut Demanded, at: Call, op: &Op, whole: bool) -> Result<(), AllocError>
-    ensures { OnOk result ((s : RunShadow) → AreMet s w.old → AllByRecursion (IsMet s) (made_by at.thread at.depth op.now whole) → AreMet s w.new) }
+    ensures { OnOk result ((s : SymbolicState) → AreMet s w.old → AllByRecursion (IsMet s) (made_by at.thread at.depth op.now whole) → AreMet s w.new) }
 {
     match op {
         Op::Add { left, right, .. }
@@ -174,7 +174,7 @@ pub(crate) fn back_result(
     target: Option<u32>,
     op: &Op,
 ) -> Result<(), AllocError>
-    ensures { OnOk result ((after before : RunShadow) → Leaves at.thread at.depth (is_target target) none after before
+    ensures { OnOk result ((after before : SymbolicState) → Leaves at.thread at.depth (is_target target) none after before
         → ((r : ℕ) (v : Bool) → target ≡ Some r → IsMet after (register_demand at.thread at.depth r v) → AllByRecursion (IsMet before) (made_by at.thread at.depth op.now v))
         → AreMet after w.old → AreMet before w.new) }
 {
@@ -204,7 +204,7 @@ fn wanted_at(wanted: &[Wanted], i: usize) -> Wanted
 
 /// The values of a list have to be known.
 pub(crate) fn put_wanted(w: &mut Demanded, at: Call, wanted: &[Wanted]) -> Result<(), AllocError>
-    ensures { OnOk result ((s : RunShadow) → AreMet s w.old → AreWanted s at.thread at.depth wanted.now → AreMet s w.new) }
+    ensures { OnOk result ((s : SymbolicState) → AreMet s w.old → AreWanted s at.thread at.depth wanted.now → AreMet s w.new) }
 {
     for i in 0..wanted.len() {
         let one = wanted_at(wanted, i);
@@ -222,7 +222,7 @@ fn take_parameter(
     wanted: &mut Vec<Wanted>,
 ) -> Result<(), AllocError>
     ensures less { OnOk result (IsLess w.old w.new) }
-    ensures wanted { OnOk result ((after before : RunShadow) → AreMet after w.old
+    ensures wanted { OnOk result ((after before : SymbolicState) → AreMet after w.old
         → ((v : Bool) → IsMet after (register_demand at.thread (suc at.depth) i v) → AllByRecursion (IsMet before) (of_value at.thread at.depth v value))
         → AreWanted before at.thread at.depth wanted.old.items → AreWanted before at.thread at.depth wanted.new.items) }
 {
@@ -244,7 +244,7 @@ fn take_parameters(
     args: &[Value],
 ) -> Result<Vec<Wanted>, AllocError>
     ensures less { OnOk result (IsLess w.old w.new) }
-    ensures wanted { IfOk result (λ v. (after before : RunShadow) → AreMet after w.old
+    ensures wanted { IfOk result (λ v. (after before : SymbolicState) → AreMet after w.old
         → ((i : ℕ) (z : AValue) (b : Bool) → slice_get args.now i ≡ Some z
         → IsMet after (register_demand at.thread (suc at.depth) i b) → AllByRecursion (IsMet before) (of_value at.thread at.depth b z))
         → AreWanted before at.thread at.depth v.items) }
@@ -268,7 +268,7 @@ pub(crate) fn back_call(
     target: Option<u32>,
     args: &[Value],
 ) -> Result<(), AllocError>
-    ensures { OnOk result ((after before : RunShadow) → Leaves at.thread at.depth (is_target target) none after before
+    ensures { OnOk result ((after before : SymbolicState) → Leaves at.thread at.depth (is_target target) none after before
         → ((i : ℕ) (z : AValue) (b : Bool) → slice_get args.now i ≡ Some z
         → IsMet after (register_demand at.thread (suc at.depth) i b) → AllByRecursion (IsMet before) (of_value at.thread at.depth b z))
         → AreMet after w.old → AreMet before w.new) }
@@ -291,7 +291,7 @@ pub(crate) fn back_return(
     value: Option<Value>,
 ) -> Result<(), AllocError>
     requires { 0 < at.depth }
-    ensures { OnOk result ((after before : RunShadow) → Leaves at.thread (at.depth - 1) (is_target target) none after before
+    ensures { OnOk result ((after before : SymbolicState) → Leaves at.thread (at.depth - 1) (is_target target) none after before
         → ((r : ℕ) (v : Bool) → target ≡ Some r → IsMet after (register_demand at.thread (at.depth - 1) r v) → AllByRecursion (IsMet before) (of_optional at.thread at.depth v value))
         → AreMet after w.old → AreMet before w.new) }
 {

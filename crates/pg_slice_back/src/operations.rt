@@ -4,7 +4,7 @@ ghost use Rattle.std.specs.Prelude.{◌≡◌, ◌<◌, ◌-◌, ℕ, suc, Bool,
 ghost use Rattle.std.specs.List.{AllByRecursion};
 ghost use Rattle.pg_ir.specs.Program.{NumberedProgram};
 ghost use Rattle.pg_run_trace.specs.declared.step.Step.{Step as AStep};
-ghost use Rattle.pg_slice_rules.specs.Known.{Reference, RunShadow, Taken};
+ghost use Rattle.pg_slice_rules.specs.Known.{Reference, SymbolicState, Taken};
 ghost use Rattle.pg_slice_rules.specs.Moments.{Moment};
 ghost use Rattle.pg_law_demands.specs.Along.{known_at};
 ghost use Rattle.pg_law_demands.specs.Cells.{IsMet};
@@ -78,7 +78,7 @@ fn back_returned(
     target: Option<u32>,
     value: Option<Value>,
 ) -> Result<(), AllocError>
-    ensures { OnOk result ((after before : RunShadow) → Leaves at.thread (at.depth - 1) (is_target target) none after before
+    ensures { OnOk result ((after before : SymbolicState) → Leaves at.thread (at.depth - 1) (is_target target) none after before
         → ((r : ℕ) (v : Bool) → target ≡ Some r → IsMet after (register_demand at.thread (at.depth - 1) r v)
         → 0 < at.depth → AllByRecursion (IsMet before) (of_optional at.thread at.depth v value))
         → AreMet after w.old → AreMet before w.new) }

@@ -3,7 +3,7 @@
 ghost use Rattle.std.specs.Prelude.{◌≡◌, ◌||◌, true, Some, IfSome, OnOk, slice_get};
 ghost use Rattle.std.specs.List.{AllByRecursion};
 ghost use Rattle.pg_run_thread.specs.Operands.{operands_of};
-ghost use Rattle.pg_slice_rules.specs.Known.{RunShadow, Seen};
+ghost use Rattle.pg_slice_rules.specs.Known.{SymbolicState, Seen};
 ghost use Rattle.pg_slice_rules.specs.Moments.{thread_in};
 ghost use Rattle.pg_slice_rules.specs.Rules.{address_index};
 ghost use Rattle.pg_slice_decisions.specs.Steps.{taken_by};
@@ -46,7 +46,7 @@ fn address(op: &Op) -> Option<Value>
 
 /// The condition of a branch has to be known, where it is pinned.
 fn put_condition(w: &mut Demanded, at: Call, op: &Op, pinned: bool) -> Result<(), AllocError>
-    ensures { OnOk result ((s : RunShadow) → (pinned ≡ true → AllByRecursion (IsMet s) (of_operand at.thread at.depth true op.now 0)) → AreMet s w.old → AreMet s w.new) }
+    ensures { OnOk result ((s : SymbolicState) → (pinned ≡ true → AllByRecursion (IsMet s) (of_operand at.thread at.depth true op.now 0)) → AreMet s w.old → AreMet s w.new) }
 {
     if pinned {
         put_optional(w, at, condition(op), true)
@@ -57,7 +57,7 @@ fn put_condition(w: &mut Demanded, at: Call, op: &Op, pinned: bool) -> Result<()
 
 /// The address of an access has to be known, whole or by its bounds alone.
 fn put_address(w: &mut Demanded, at: Call, op: &Op, whole: bool) -> Result<(), AllocError>
-    ensures { OnOk result ((s : RunShadow) → AllByRecursion (IsMet s) (of_operand at.thread at.depth whole op.now (address_index op.now)) → AreMet s w.old → AreMet s w.new) }
+    ensures { OnOk result ((s : SymbolicState) → AllByRecursion (IsMet s) (of_operand at.thread at.depth whole op.now (address_index op.now)) → AreMet s w.old → AreMet s w.new) }
 {
     put_optional(w, at, address(op), whole)
 }
@@ -79,7 +79,7 @@ pub(crate) fn put_own(
     kind: &StepKind,
     n: usize,
 ) -> Result<(), AllocError>
-    ensures { OnOk result ((s : RunShadow) (y : Seen) → thread_in y.moment ≡ at.thread → depth_of y ≡ at.depth → y.number ≡ n
+    ensures { OnOk result ((s : SymbolicState) (y : Seen) → thread_in y.moment ≡ at.thread → depth_of y ≡ at.depth → y.number ≡ n
         → AllByRecursion (IsMet s) (kind_demands (taken_by d.now) y x.now kind.now) → AreMet s w.old → AreMet s w.new) }
 {
     match kind {

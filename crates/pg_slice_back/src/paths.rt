@@ -3,7 +3,7 @@
 ghost use Rattle.std.specs.Prelude.{◌≡◌, ◌<◌, ◌≤◌, OnOk, Some, length, nat_lt, slice_get, take};
 ghost use Rattle.std.specs.List.{AllByRecursion};
 ghost use Rattle.pg_slice_rules.specs.Freeable.{FreeRegion};
-ghost use Rattle.pg_slice_rules.specs.Known.{RunShadow, Seen};
+ghost use Rattle.pg_slice_rules.specs.Known.{SymbolicState, Seen};
 ghost use Rattle.pg_slice_rules.specs.Moments.{thread_in};
 ghost use Rattle.pg_law_least.specs.Keeps.{depth_of};
 ghost use Rattle.pg_law_demands.specs.Cells.{IsMet};
@@ -23,7 +23,7 @@ use std::alloc::AllocError;
 
 /// The root of a path has to be known, whole or by its bounds alone.
 fn put_root(w: &mut Demanded, at: Call, root: Root, whole: bool) -> Result<(), AllocError>
-    ensures { OnOk result ((s : RunShadow) (y : Seen) → thread_in y.moment ≡ at.thread → depth_of y ≡ at.depth
+    ensures { OnOk result ((s : SymbolicState) (y : Seen) → thread_in y.moment ≡ at.thread → depth_of y ≡ at.depth
         → AllByRecursion (IsMet s) (root_demands y root whole) → AreMet s w.old → AreMet s w.new) }
 {
     match root {
@@ -44,7 +44,7 @@ fn word_at(words: &[u64], i: usize) -> Option<u64>
 
 /// The eight bytes have to be known that a load reads, so many bytes from a pointer.
 fn put_cell(w: &mut Demanded, word: u64, offset: u64) -> Result<(), AllocError>
-    ensures { OnOk result ((s : RunShadow) → IsCellMet s word offset → AreMet s w.old → AreMet s w.new) }
+    ensures { OnOk result ((s : SymbolicState) → IsCellMet s word offset → AreMet s w.old → AreMet s w.new) }
 {
     put_bytes(w, cell_start(word, offset) as u64, 8)?;
     Ok(())
@@ -52,7 +52,7 @@ fn put_cell(w: &mut Demanded, word: u64, offset: u64) -> Result<(), AllocError>
 
 /// The cell has to be known from which the load with this number reads, if there is one.
 fn put_load(w: &mut Demanded, pointers: &[u64], offsets: &[u64], i: usize) -> Result<(), AllocError>
-    ensures { OnOk result ((s : RunShadow) → AreCellsMet s pointers.now offsets.now → AreMet s w.old → AreMet s w.new) }
+    ensures { OnOk result ((s : SymbolicState) → AreCellsMet s pointers.now offsets.now → AreMet s w.old → AreMet s w.new) }
 {
     match word_at(pointers, i) {
         Some(word) => match word_at(offsets, i) {
@@ -68,7 +68,7 @@ fn put_load(w: &mut Demanded, pointers: &[u64], offsets: &[u64], i: usize) -> Re
 
 /// The cells have to be known from which loads read, at these offsets from pointers.
 fn put_cells(w: &mut Demanded, pointers: &[u64], offsets: &[u64]) -> Result<(), AllocError>
-    ensures { OnOk result ((s : RunShadow) → AreCellsMet s pointers.now offsets.now → AreMet s w.old → AreMet s w.new) }
+    ensures { OnOk result ((s : SymbolicState) → AreCellsMet s pointers.now offsets.now → AreMet s w.old → AreMet s w.new) }
 {
     for i in 0..offsets.len() {
         put_load(w, pointers, offsets, i)?;
@@ -95,7 +95,7 @@ fn has_loads(count: usize) -> bool
 /// The root of an access's path has to be known, by its bounds alone where the path doesn't load, and the cells from which it
 /// loads.
 fn put_access(w: &mut Demanded, at: Call, access: &FreeAccess) -> Result<(), AllocError>
-    ensures { OnOk result ((s : RunShadow) (y : Seen) → thread_in y.moment ≡ at.thread → depth_of y ≡ at.depth → AllByRecursion (IsMet s) (free_access_demands y (access_as access.now))
+    ensures { OnOk result ((s : SymbolicState) (y : Seen) → thread_in y.moment ≡ at.thread → depth_of y ≡ at.depth → AllByRecursion (IsMet s) (free_access_demands y (access_as access.now))
         → AreMet s w.old → AreMet s w.new) }
 {
     let (offsets, count) = offsets(access.path.loads);
@@ -114,7 +114,7 @@ fn put_one(
     n: usize,
     k: usize,
 ) -> Result<(), AllocError>
-    ensures { OnOk result ((l : ALandmark) (q : FreeRegion) (s : RunShadow) (y : Seen)
+    ensures { OnOk result ((l : ALandmark) (q : FreeRegion) (s : SymbolicState) (y : Seen)
         → landmark_at r.now n ≡ Some l → l.region ≡ Some q → thread_in y.moment ≡ at.thread → depth_of y ≡ at.depth
         → AllByRecursion (IsMet s) (region_demands y (Some q)) → AreMet s w.old → AreMet s w.new) }
 {
@@ -132,7 +132,7 @@ pub(crate) fn put_region(
     at: Call,
     n: usize,
 ) -> Result<(), AllocError>
-    ensures { OnOk result ((l : ALandmark) (s : RunShadow) (y : Seen) → landmark_at r.now n ≡ Some l → thread_in y.moment ≡ at.thread → depth_of y ≡ at.depth
+    ensures { OnOk result ((l : ALandmark) (s : SymbolicState) (y : Seen) → landmark_at r.now n ≡ Some l → thread_in y.moment ≡ at.thread → depth_of y ≡ at.depth
         → AllByRecursion (IsMet s) (region_demands y l.region) → AreMet s w.old → AreMet s w.new) }
 {
     if !r.is_free(n) {

@@ -4,7 +4,7 @@ ghost use Rattle.std.specs.Prelude.{◌≡◌, ◌<◌, ◌+◌, ◌-◌, ℕ, B
 ghost use Rattle.std.specs.List.{AllByRecursion};
 ghost use Rattle.pg_ir.specs.declared.instr.Instr.{Instr as AnInstr};
 ghost use Rattle.pg_ir.specs.Edges.{incoming_from, incoming_of};
-ghost use Rattle.pg_slice_rules.specs.Known.{RunShadow};
+ghost use Rattle.pg_slice_rules.specs.Known.{SymbolicState};
 ghost use Rattle.pg_law_demands.specs.Cells.{IsMet};
 ghost use Rattle.pg_law_demands.specs.Back.{back_edge, is_target, last_phi, of_optional, register_demand};
 ghost use Rattle.pg_slice_demands.specs.Asked.{asked_of};
@@ -32,7 +32,7 @@ fn is_within(target: Option<u32>, count: usize) -> bool
 
 /// A value that there may be goes to a list.
 fn want(wanted: &mut Vec<Wanted>, value: Option<Value>, whole: bool) -> Result<(), AllocError>
-    ensures { OnOk result ((s : RunShadow) (t k : ℕ) → AllByRecursion (IsMet s) (of_optional t k whole value) → AreWanted s t k wanted.old.items → AreWanted s t k wanted.new.items) }
+    ensures { OnOk result ((s : SymbolicState) (t k : ℕ) → AllByRecursion (IsMet s) (of_optional t k whole value) → AreWanted s t k wanted.old.items → AreWanted s t k wanted.new.items) }
 {
     if let Some(value) = value {
         wanted.push(Wanted { value, whole })?;
@@ -50,7 +50,7 @@ fn take_phi(
     wanted: &mut Vec<Wanted>,
 ) -> Result<(), AllocError>
     ensures without { OnOk result (Without at.thread at.depth (is_target x.now.result) none w.old w.new) }
-    ensures wanted { OnOk result ((s : RunShadow) → ((i : ℕ) (v : Bool) → x.now.result ≡ Some i → i < count → asked_of w.old at.thread at.depth i ≡ Some v
+    ensures wanted { OnOk result ((s : SymbolicState) → ((i : ℕ) (v : Bool) → x.now.result ≡ Some i → i < count → asked_of w.old at.thread at.depth i ≡ Some v
         → AllByRecursion (IsMet s) (of_optional at.thread at.depth v (incoming_from (incoming_of x.now.op) from)))
         → AreWanted s at.thread at.depth wanted.old.items → AreWanted s at.thread at.depth wanted.new.items) }
 {
@@ -81,7 +81,7 @@ fn back_phis(
     from: u32,
     count: usize,
 ) -> Result<(), AllocError>
-    ensures { OnOk result ((after before : RunShadow) → Leaves at.thread at.depth (phis_set phis.now) none after before
+    ensures { OnOk result ((after before : SymbolicState) → Leaves at.thread at.depth (phis_set phis.now) none after before
         → ((i : ℕ) (v : Bool) (x : AnInstr) → i < count → last_phi phis.now i ≡ Some x → IsMet after (register_demand at.thread at.depth i v)
         → AllByRecursion (IsMet before) (of_optional at.thread at.depth v (incoming_from (incoming_of x.op) from)))
         → AreMet after w.old → AreMet before w.new) }
@@ -110,7 +110,7 @@ pub(crate) fn back_edge(
     count: usize,
 ) -> Result<(), AllocError>
     requires { IfSome edge (λ b. b < length p.now.blocks) }
-    ensures { OnOk result ((after before : RunShadow) → Leaves at.thread at.depth (edge_sets p.now edge) none after before
+    ensures { OnOk result ((after before : SymbolicState) → Leaves at.thread at.depth (edge_sets p.now edge) none after before
         → ((i : ℕ) (v : Bool) → i < count → IsMet after (register_demand at.thread at.depth i v) → AllByRecursion (IsMet before) (back_edge p.now at.thread at.depth from edge i v))
         → AreMet after w.old → AreMet before w.new) }
 {

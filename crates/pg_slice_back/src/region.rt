@@ -3,7 +3,7 @@
 ghost use Rattle.std.specs.Prelude.{◌≡◌, ◌<◌, ◌&&◌, nat_lt, true, false, Some, None, IfSome, slice_get};
 ghost use Rattle.pg_region_accesses.specs.Tables.{in_table};
 ghost use Rattle.pg_slice_rules.specs.Freeable.{bounds_of};
-ghost use Rattle.pg_slice_rules.specs.Shadows.{is_within};
+ghost use Rattle.pg_slice_rules.specs.SymbolicValues.{is_within};
 ghost use Rattle.pg_law_least.specs.Keeps.{may_write};
 ghost use Rattle.pg_slice_replay.specs.Kept.{landmark_at};
 ghost use Rattle.pg_slice_back.specs.Sets.{AsksByte, AsksOfAccess, AsksRegion, AsksRegister};

@@ -3,7 +3,7 @@
 ghost use Rattle.std.specs.Prelude.{◌≡◌, ◌+◌, suc, ℤ, List, [], Some, IfOk, OnOk, length, slice_get};
 ghost use Rattle.pg_ir.specs.declared.ids.InstrId.{InstrId};
 ghost use Rattle.pg_slice_rules.specs.Freeable.{Regions};
-ghost use Rattle.pg_slice_rules.specs.Known.{Reference, RunShadow};
+ghost use Rattle.pg_slice_rules.specs.Known.{Reference, SymbolicState};
 ghost use Rattle.pg_slice_rules.specs.Moments.{Moment, instr_in};
 ghost use Rattle.pg_law_least.specs.Keeps.{ExtentsKeep, every};
 ghost use Rattle.pg_law_demands.specs.Along.{known_at};
@@ -25,7 +25,7 @@ pub struct Counts {
 
 /// The counts before a step.
 fn counts_at(calls: &Calls, step: &Step) -> Counts
-    ensures { (s : RunShadow) → AreStacks calls.now s → AreCountsOf s step.now.thread.0 result }
+    ensures { (s : SymbolicState) → AreStacks calls.now s → AreCountsOf s step.now.thread.0 result }
 {
     let t = step.thread.0 as usize;
     Counts {

@@ -15,7 +15,7 @@ use Rattle.pg_run_trace.specs.declared.step.StepKind.{StepKind}
 use Rattle.pg_run_trace.specs.declared.step.StepKind.TheVariants as kinds
 use Rattle.pg_run_trace.specs.declared.step.Write.{Write}
 use Rattle.pg_run_trace.specs.Steps.{access_by, access_in}
-use Rattle.pg_slice_rules.specs.Shadows.{Shadow}
+use Rattle.pg_slice_rules.specs.SymbolicValues.{Symbolic}
 use Rattle.pg_slice_rules.specs.Rules.{Bounds, edge_tests, is_case, same_bounds, write_index}
 use Rattle.pg_slice_checks.specs.Steps.{AreEnough, access_index, bounds_by}
 
@@ -31,11 +31,11 @@ pub other_tests : (o : Op) (n : ℕ) → ((w : Width) (on : Value) (other : Bloc
 other_tests (op.Switch w on other cases) n h = absurd (h w on other cases refl)
 other_tests _ n h = refl
 
-pub bounds_of_access : (s : Shadow) (a : Option Access) (pointer : ℕ) → Some pointer ≡ option_map (λ (x : Access). x.pointer) a → bounds_by s a ≡ Bounds s (same_bounds pointer) ∷ []
+pub bounds_of_access : (s : Symbolic) (a : Option Access) (pointer : ℕ) → Some pointer ≡ option_map (λ (x : Access). x.pointer) a → bounds_by s a ≡ Bounds s (same_bounds pointer) ∷ []
 bounds_of_access s None pointer e = absurd cc
 bounds_of_access s (Some a) pointer e = let q : a.pointer ≡ pointer = cc in rw q refl
 
-pub bounds_of_none : (s : Shadow) (a : Option Access) → None ≡ option_map (λ (x : Access). x.pointer) a → bounds_by s a ≡ []
+pub bounds_of_none : (s : Symbolic) (a : Option Access) → None ≡ option_map (λ (x : Access). x.pointer) a → bounds_by s a ≡ []
 bounds_of_none s None e = refl
 bounds_of_none s (Some a) e = absurd cc
 

@@ -9,7 +9,7 @@ use Rattle.pg_precondition.specs.declared.check.Test.TheVariants as test
 use Rattle.pg_run_trace.specs.declared.step.Event.{Event}
 use Rattle.pg_run_trace.specs.declared.turn.TurnKind.{TurnKind}
 use Rattle.pg_run_trace.specs.declared.turn.TurnKind.TheVariants as turns
-use Rattle.pg_slice_rules.specs.Shadows.{Shadow}
+use Rattle.pg_slice_rules.specs.SymbolicValues.{Symbolic}
 use Rattle.pg_slice_rules.specs.Rules.{Value, checked, checked_of}
 use Rattle.pg_slice_checks.specs.Steps.{at, below, equal_needs, event_needs, is_start}
 
@@ -17,7 +17,7 @@ map_both : {A B : Type 0} (f : A → B) (xs ys : List A) → map f (xs ++ ys) �
 map_both f [] ys = refl
 map_both f (x ∷ xs) ys = ap (λ l. f x ∷ l) (map_both f xs ys)
 
-pub below_more : (ss : List Shadow) (e : Event) (k : ℕ) → equal_needs ss e (below (k + 1)) ≡ equal_needs ss e (below k) ++ Value (at ss k) (test.Eq (slice_index e.operands k) ∷ []) ∷ []
+pub below_more : (ss : List Symbolic) (e : Event) (k : ℕ) → equal_needs ss e (below (k + 1)) ≡ equal_needs ss e (below k) ++ Value (at ss k) (test.Eq (slice_index e.operands k) ∷ []) ∷ []
 below_more ss e k = let q : k + 1 ≡ suc k = omega arith in rw q (map_both (λ n. Value (at ss n) (test.Eq (slice_index e.operands n) ∷ [])) (below k) (k ∷ []))
 
 pub below_length : (n : ℕ) → length (below n) ≡ n
@@ -58,7 +58,7 @@ few o n e = let a = few_of o in let b = below_length n in let c : length (checke
 pub enough : (o : Op) (n m : ℕ) → checked_of o ≡ below n → length (checked_of o) ≤ m → n ≤ m
 enough o n m e a = let b = below_length n in let c : length (checked_of o) ≡ length (below n) = ap (λ l. length l) e in omega (arith, a, b, c)
 
-pub started : (ss : List Shadow) (o : Op) (e : Event) (kind : TurnKind) → is_start kind ≡ true → event_needs ss o e kind ≡ []
+pub started : (ss : List Symbolic) (o : Op) (e : Event) (kind : TurnKind) → is_start kind ≡ true → event_needs ss o e kind ≡ []
 started ss o e turns.Start q = refl
 started ss o e turns.Exit q = absurd (true≢false (sym q))
 started ss o e turns.Create q = absurd (true≢false (sym q))
@@ -84,7 +84,7 @@ started ss o e turns.Load q = absurd (true≢false (sym q))
 started ss o e turns.Store q = absurd (true≢false (sym q))
 
 -- an event that is no start
-pub event_by : (ss : List Shadow) (o : Op) (e : Event) (kind : TurnKind) → is_start kind ≡ false → event_needs ss o e kind ≡ equal_needs ss e (checked_of o)
+pub event_by : (ss : List Symbolic) (o : Op) (e : Event) (kind : TurnKind) → is_start kind ≡ false → event_needs ss o e kind ≡ equal_needs ss e (checked_of o)
 event_by ss o e turns.Start q = absurd (true≢false q)
 event_by ss o e turns.Exit q = refl
 event_by ss o e turns.Create q = refl

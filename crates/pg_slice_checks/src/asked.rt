@@ -4,7 +4,7 @@ use pg_ir::Case;
 use pg_num::unpack;
 use pg_precondition::{Check, Test};
 use pg_slice_rules::Decision;
-use pg_slice_values::Source;
+use pg_slice_values::SymbolicNode;
 use std::alloc::{AllocError, Global};
 
 /// What was asked of values: the decisions that are missing, in the order in which they were asked for, and the checks
@@ -21,7 +21,7 @@ impl Asked {
     ghost use Rattle.pg_precondition.specs.Nodes.{NodeList};
     ghost use Rattle.pg_precondition.specs.declared.check.Test.TheVariants as test;
     ghost use Rattle.pg_slice_rules.specs.Rules.{Value, Bounds, same_bounds};
-    ghost use Rattle.pg_slice_values.specs.Sources.{IsSource, shadow_by};
+    ghost use Rattle.pg_slice_values.specs.SymbolicNodes.{IsSymbolicNode, symbolic_by};
     ghost use Rattle.pg_slice_checks.specs.Asks.{Adds, other_than};
 
     /// Nothing was asked.
@@ -41,12 +41,12 @@ impl Asked {
     ///
     /// Where no memory is left.
     #[tactic(auto, using(crate::proofs::OneNeedMore::one_check, crate::proofs::OneNeedMore::one_missing))]
-    pub fn need_value(&mut self, s: Source, test: Test) -> Result<(), AllocError>
-        ensures { IfOk result (λ u. (ns : NodeList) → IsSource (length ns) s → Adds ns (Value (shadow_by ns s) (test ∷ []) ∷ []) self.old self.new) }
+    pub fn need_value(&mut self, s: SymbolicNode, test: Test) -> Result<(), AllocError>
+        ensures { IfOk result (λ u. (ns : NodeList) → IsSymbolicNode (length ns) s → Adds ns (Value (symbolic_by ns s) (test ∷ []) ∷ []) self.old self.new) }
     {
         match s {
-            Source::Known { value, .. } => self.checks.push(Check { node: value, test })?,
-            Source::Bounded(_, by) | Source::Unknown(by) => self.missing.push(by)?,
+            SymbolicNode::Known { value, .. } => self.checks.push(Check { node: value, test })?,
+            SymbolicNode::Bounded(_, by) | SymbolicNode::Unknown(by) => self.missing.push(by)?,
         }
         Ok(())
     }
@@ -57,16 +57,16 @@ impl Asked {
     ///
     /// Where no memory is left.
     #[tactic(auto, using(crate::proofs::OneNeedMore::one_check, crate::proofs::OneNeedMore::one_missing))]
-    pub fn need_bounds(&mut self, s: Source, word: u64) -> Result<(), AllocError>
-        ensures { IfOk result (λ u. (ns : NodeList) → IsSource (length ns) s → Adds ns (Bounds (shadow_by ns s) (same_bounds word) ∷ []) self.old self.new) }
+    pub fn need_bounds(&mut self, s: SymbolicNode, word: u64) -> Result<(), AllocError>
+        ensures { IfOk result (λ u. (ns : NodeList) → IsSymbolicNode (length ns) s → Adds ns (Bounds (symbolic_by ns s) (same_bounds word) ∷ []) self.old self.new) }
     {
         let pointer = unpack(word);
         let test = Test::Bounds(pointer.start, pointer.length);
         match s {
-            Source::Known { bounds, .. } | Source::Bounded(bounds, _) => self
+            SymbolicNode::Known { bounds, .. } | SymbolicNode::Bounded(bounds, _) => self
                 .checks
                 .push(Check { node: bounds, test })?,
-            Source::Unknown(by) => self.missing.push(by)?,
+            SymbolicNode::Unknown(by) => self.missing.push(by)?,
         }
         Ok(())
     }
@@ -77,12 +77,12 @@ impl Asked {
     ///
     /// Where no memory is left.
     #[tactic(auto, using(crate::proofs::OneNeedMore::one_missing, crate::proofs::OneNeedMore::many_checks))]
-    pub fn need_none(&mut self, s: Source, cases: &[Case]) -> Result<(), AllocError>
-        ensures { IfOk result (λ u. (ns : NodeList) → IsSource (length ns) s → Adds ns (Value (shadow_by ns s) (map (λ (c : ACase). test.Ne c.value) cases.now) ∷ []) self.old self.new) }
+    pub fn need_none(&mut self, s: SymbolicNode, cases: &[Case]) -> Result<(), AllocError>
+        ensures { IfOk result (λ u. (ns : NodeList) → IsSymbolicNode (length ns) s → Adds ns (Value (symbolic_by ns s) (map (λ (c : ACase). test.Ne c.value) cases.now) ∷ []) self.old self.new) }
     {
         match s {
-            Source::Known { value, .. } => self.check_others(value, cases)?,
-            Source::Bounded(_, by) | Source::Unknown(by) => self.missing.push(by)?,
+            SymbolicNode::Known { value, .. } => self.check_others(value, cases)?,
+            SymbolicNode::Bounded(_, by) | SymbolicNode::Unknown(by) => self.missing.push(by)?,
         }
         Ok(())
     }

@@ -5,9 +5,9 @@ ghost use Rattle.pg_num.specs.Places.{ByteRange};
 ghost use Rattle.pg_num.specs.Pointers.{moved_by};
 ghost use Rattle.pg_precondition.specs.Nodes.{NodeList};
 ghost use Rattle.pg_slice_rules.specs.Rules as rules;
-ghost use Rattle.pg_slice_rules.specs.Shadows.{loaded};
-ghost use Rattle.pg_slice_values.specs.Sources.{Grew, IsSource, shadow_by};
-ghost use Rattle.pg_slice_memory.specs.Changes.{AreSources, shadows_of};
+ghost use Rattle.pg_slice_rules.specs.SymbolicValues.{loaded};
+ghost use Rattle.pg_slice_values.specs.SymbolicNodes.{Grew, IsSymbolicNode, symbolic_by};
+ghost use Rattle.pg_slice_memory.specs.Changes.{AreSymbolicNodes, symbolics_of};
 ghost use Rattle.pg_stamps.specs.declared.stamps.TheConstants.{PLACE_COUNT};
 ghost use Rattle.pg_slice_checks.specs.Asks.{Adds};
 ghost use Rattle.pg_slice_checks.specs.Paths.{AreCells};
@@ -16,8 +16,8 @@ use crate::asked::Asked;
 use pg_ir::Program;
 use pg_num::move_by;
 use pg_precondition::{Nodes, Test};
-use pg_slice_memory::{Held, ShadowMemory, place_of};
-use pg_slice_values::{Source, offset};
+use pg_slice_memory::{Held, SymbolicMemory, place_of};
+use pg_slice_values::{SymbolicNode, offset};
 use std::alloc::AllocError;
 
 /// The word moved by so many bytes, which count modulo two to the 21.
@@ -31,21 +31,21 @@ fn move_word(word: u64, bytes: u64) -> u64
 fn load(
     p: &Program,
     nodes: &mut Nodes,
-    memory: &ShadowMemory,
+    memory: &SymbolicMemory,
     start: u64,
-) -> Result<Source, AllocError>
+) -> Result<SymbolicNode, AllocError>
     requires end { start + 8 ≤ PLACE_COUNT }
-    requires names { AreSources (length nodes.old) memory.now }
+    requires names { AreSymbolicNodes (length nodes.old) memory.now }
     ensures grew { Grew nodes.old nodes.new }
-    ensures is { IfOk result (IsSource (length nodes.new)) }
-    ensures value { IfOk result (λ s. shadow_by nodes.new s ≡ loaded (shadows_of p.now nodes.old memory.now) start 8) }
+    ensures is { IfOk result (IsSymbolicNode (length nodes.new)) }
+    ensures value { IfOk result (λ s. symbolic_by nodes.new s ≡ loaded (symbolics_of p.now nodes.old memory.now) start 8) }
 {
     match memory.load(p, nodes, start, 8)? {
-        Held::Known(node) => Ok(Source::Known {
+        Held::Known(node) => Ok(SymbolicNode::Known {
             value: node,
             bounds: node,
         }),
-        Held::Unknown(by) => Ok(Source::Unknown(by)),
+        Held::Unknown(by) => Ok(SymbolicNode::Unknown(by)),
     }
 }
 
@@ -60,18 +60,18 @@ pub fn path_needs(
     asked: &mut Asked,
     p: &Program,
     nodes: &mut Nodes,
-    memory: &ShadowMemory,
-    root: Source,
+    memory: &SymbolicMemory,
+    root: SymbolicNode,
     offsets: &[u64],
     pointers: &[u64],
     last: u64,
 ) -> Result<(), AllocError>
     requires count { length offsets.now ≤ length pointers.now }
-    requires names { AreSources (length nodes.old) memory.now }
-    requires root { IsSource (length nodes.old) root }
+    requires names { AreSymbolicNodes (length nodes.old) memory.now }
+    requires root { IsSymbolicNode (length nodes.old) root }
     ensures grew { Grew nodes.old nodes.new }
     ensures adds { IfOk result (λ u. (ns : NodeList) (cells : List ByteRange) → Grew nodes.new ns → AreCells offsets.now pointers.now cells →
-        Adds ns (rules.path_needs (shadows_of p.now ns memory.now) (shadow_by ns root) offsets.now pointers.now cells last) asked.old asked.new) }
+        Adds ns (rules.path_needs (symbolics_of p.now ns memory.now) (symbolic_by ns root) offsets.now pointers.now cells last) asked.old asked.new) }
 {
     let mut s = root;
     for i in 0..offsets.len() {

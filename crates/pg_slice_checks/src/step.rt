@@ -8,7 +8,7 @@ ghost use Rattle.pg_precondition.specs.Nodes.{NodeList};
 ghost use Rattle.pg_slice_rules.specs.Rules as rules;
 ghost use Rattle.pg_slice_rules.specs.Rules.{Value};
 ghost use Rattle.std.specs.List.{AllByRecursion};
-ghost use Rattle.pg_slice_values.specs.Sources.{IsSource, shadow_by};
+ghost use Rattle.pg_slice_values.specs.SymbolicNodes.{IsSymbolicNode, symbolic_by};
 ghost use Rattle.pg_slice_checks.specs.Asks.{Adds};
 ghost use Rattle.pg_slice_checks.specs.Steps as steps;
 ghost use Rattle.pg_slice_checks.specs.Steps.{AreEnough, access_index, at, below};
@@ -17,7 +17,7 @@ use crate::asked::Asked;
 use pg_ir::{Case, LibraryCall, Op};
 use pg_precondition::Test;
 use pg_run_trace::{Event, StepKind, TurnKind};
-use pg_slice_values::Source;
+use pg_slice_values::SymbolicNode;
 use std::alloc::AllocError;
 
 /// Whether a number is that of a case.
@@ -107,19 +107,24 @@ fn is_malloc(op: &Op) -> bool
     )
 }
 
-#[tactic(auto, using(crate::proofs::OneOperand::operand_at, crate::proofs::OneOperand::source_at))]
+#[tactic(auto, using(crate::proofs::OneOperand::operand_at, crate::proofs::OneOperand::symbolic_node_at))]
 /// What is known of the operand with this index.
-fn operand(operands: &[Source], k: usize) -> Source
+fn operand(operands: &[SymbolicNode], k: usize) -> SymbolicNode
     requires { k < length operands.now }
-    ensures value { (ns : NodeList) → at (map (shadow_by ns) operands.now) k ≡ shadow_by ns result }
-    ensures is { (n : ℕ) → AllByRecursion (IsSource n) operands.now → IsSource n result }
+    ensures value { (ns : NodeList) → at (map (symbolic_by ns) operands.now) k ≡ symbolic_by ns result }
+    ensures is { (n : ℕ) → AllByRecursion (IsSymbolicNode n) operands.now → IsSymbolicNode n result }
 {
     operands[k]
 }
 
 /// What a pinned step at a branch asks of its condition, which had this number.
-fn branch_needs(asked: &mut Asked, op: &Op, on: Source, condition: u64) -> Result<(), AllocError>
-    ensures { IfOk result (λ u. (ns : NodeList) → IsSource (length ns) on → Adds ns (Value (shadow_by ns on) (rules.edge_tests op.now condition) ∷ []) asked.old asked.new) }
+fn branch_needs(
+    asked: &mut Asked,
+    op: &Op,
+    on: SymbolicNode,
+    condition: u64,
+) -> Result<(), AllocError>
+    ensures { IfOk result (λ u. (ns : NodeList) → IsSymbolicNode (length ns) on → Adds ns (Value (symbolic_by ns on) (rules.edge_tests op.now condition) ∷ []) asked.old asked.new) }
 {
     if let Op::Switch { cases, .. } = op {
         if !is_case(condition, cases.as_slice()) {
@@ -136,13 +141,13 @@ fn branch_needs(asked: &mut Asked, op: &Op, on: Source, condition: u64) -> Resul
 fn equal_needs(
     asked: &mut Asked,
     event: &Event,
-    operands: &[Source],
+    operands: &[SymbolicNode],
     count: usize,
 ) -> Result<(), AllocError>
     requires few { count ≤ 4 }
     requires enough { count ≤ length operands.now }
-    ensures { IfOk result (λ u. (ns : NodeList) → AllByRecursion (IsSource (length ns)) operands.now
-        → Adds ns (steps.equal_needs (map (shadow_by ns) operands.now) event.now (below count)) asked.old asked.new) }
+    ensures { IfOk result (λ u. (ns : NodeList) → AllByRecursion (IsSymbolicNode (length ns)) operands.now
+        → Adds ns (steps.equal_needs (map (symbolic_by ns) operands.now) event.now (below count)) asked.old asked.new) }
 {
     for k in 0..count {
         asked.need_value(operand(operands, k), Test::Eq(event.operands[k]))?;
@@ -163,11 +168,11 @@ fn event_needs(
     asked: &mut Asked,
     op: &Op,
     event: &Event,
-    operands: &[Source],
+    operands: &[SymbolicNode],
 ) -> Result<(), AllocError>
     requires { length (rules.checked_of op.now) ≤ length operands.now }
-    ensures { IfOk result (λ u. (ns : NodeList) → AllByRecursion (IsSource (length ns)) operands.now
-        → Adds ns (steps.event_needs (map (shadow_by ns) operands.now) op.now event.now event.now.kind) asked.old asked.new) }
+    ensures { IfOk result (λ u. (ns : NodeList) → AllByRecursion (IsSymbolicNode (length ns)) operands.now
+        → Adds ns (steps.event_needs (map (symbolic_by ns) operands.now) op.now event.now event.now.kind) asked.old asked.new) }
 {
     if is_start(event.kind) {
         return Ok(());
@@ -183,12 +188,12 @@ fn value_needs(
     asked: &mut Asked,
     op: &Op,
     kind: &StepKind,
-    operands: &[Source],
+    operands: &[SymbolicNode],
     fixed: bool,
 ) -> Result<(), AllocError>
     requires { AreEnough op.now kind.now (length operands.now) }
-    ensures { IfOk result (λ u. (ns : NodeList) → AllByRecursion (IsSource (length ns)) operands.now
-        → Adds ns (steps.value_needs fixed (map (shadow_by ns) operands.now) op.now kind.now) asked.old asked.new) }
+    ensures { IfOk result (λ u. (ns : NodeList) → AllByRecursion (IsSymbolicNode (length ns)) operands.now
+        → Adds ns (steps.value_needs fixed (map (symbolic_by ns) operands.now) op.now kind.now) asked.old asked.new) }
 {
     match kind {
         StepKind::Branch { condition } => {
@@ -245,11 +250,11 @@ fn bounds_needs(
     asked: &mut Asked,
     op: &Op,
     kind: &StepKind,
-    operands: &[Source],
+    operands: &[SymbolicNode],
 ) -> Result<(), AllocError>
     requires { AreEnough op.now kind.now (length operands.now) }
-    ensures { IfOk result (λ u. (ns : NodeList) → AllByRecursion (IsSource (length ns)) operands.now
-        → Adds ns (steps.bounds_needs (map (shadow_by ns) operands.now) op.now kind.now) asked.old asked.new) }
+    ensures { IfOk result (λ u. (ns : NodeList) → AllByRecursion (IsSymbolicNode (length ns)) operands.now
+        → Adds ns (steps.bounds_needs (map (symbolic_by ns) operands.now) op.now kind.now) asked.old asked.new) }
 {
     if let Some(pointer) = access_of(kind) {
         let at = operand(operands, access_index(op, kind));
@@ -270,12 +275,12 @@ pub fn step_needs(
     asked: &mut Asked,
     op: &Op,
     kind: &StepKind,
-    operands: &[Source],
+    operands: &[SymbolicNode],
     fixed: bool,
 ) -> Result<(), AllocError>
     requires { AreEnough op.now kind.now (length operands.now) }
-    ensures { IfOk result (λ u. (ns : NodeList) → AllByRecursion (IsSource (length ns)) operands.now
-        → Adds ns (steps.step_needs fixed (map (shadow_by ns) operands.now) op.now kind.now) asked.old asked.new) }
+    ensures { IfOk result (λ u. (ns : NodeList) → AllByRecursion (IsSymbolicNode (length ns)) operands.now
+        → Adds ns (steps.step_needs fixed (map (symbolic_by ns) operands.now) op.now kind.now) asked.old asked.new) }
 {
     value_needs(asked, op, kind, operands, fixed)?;
     bounds_needs(asked, op, kind, operands)?;

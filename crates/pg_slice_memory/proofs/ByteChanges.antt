@@ -1,40 +1,40 @@
--- The sources of bytes with one change more, and the stamps that find a byte's last change.
+-- The symbolic values of bytes with one change more, and the stamps that find a byte's last change.
 use Rattle.std.proofs.Common.{◌≡◌, ℕ, zero, suc, ◌+◌, ◌-◌, ◌<◌, ◌≤◌, ◌++◌, [], ◌∷◌, Bool, true, false, Option, Some, get_or, length, length-append}
 use Rattle.std.proofs.Common.{slice_get, refl, sym, ap, ◌∙◌, arith, subst, max, if◌then◌else◌}
 use Rattle.std.specs.Prelude.{nat_le, nat_lt}
 use Rattle.std.proofs.lemmas.Bool.{and_parts, leb-true, le-ltb, ltb-true, and_right}
 use Rattle.std.proofs.lemmas.Option.{slice_get-get_or}
-use Rattle.pg_slice_rules.specs.Shadows.{is_within}
+use Rattle.pg_slice_rules.specs.SymbolicValues.{is_within}
 use Rattle.pg_stamps.specs.declared.stamps.Stamps.{Stamps}
 use Rattle.pg_stamps.specs.declared.stamps.TheConstants.{PLACE_COUNT}
 use Rattle.pg_stamps.specs.Marks.{greatest_at}
-use Rattle.pg_slice_memory.specs.declared.source.ByteSource.{ByteSource}
-use Rattle.pg_slice_memory.specs.declared.source.ByteSource.TheVariants as byte
+use Rattle.pg_slice_memory.specs.declared.symbolic_node.SymbolicByte.{SymbolicByte}
+use Rattle.pg_slice_memory.specs.declared.symbolic_node.SymbolicByte.TheVariants as byte
 use Rattle.pg_slice_memory.specs.declared.change.Change.{Change}
-use Rattle.pg_slice_memory.specs.declared.source.Held.{Held}
-use Rattle.pg_slice_memory.specs.declared.source.Held.TheVariants as held
-use Rattle.pg_slice_memory.specs.Sources.{IsPart, IsPlaceIn, changed, part_of}
-use Rattle.pg_slice_memory.specs.Changes.{Changes, range_of, sources_after, sources_of}
-use Rattle.pg_slice_memory.specs.Stamped.{AreStamps, IsIn, IsLast, source_in}
+use Rattle.pg_slice_memory.specs.declared.symbolic_node.Held.{Held}
+use Rattle.pg_slice_memory.specs.declared.symbolic_node.Held.TheVariants as held
+use Rattle.pg_slice_memory.specs.SymbolicNodes.{IsPart, IsPlaceIn, changed, part_of}
+use Rattle.pg_slice_memory.specs.Changes.{Changes, range_of, symbolic_nodes_after, symbolic_nodes_of}
+use Rattle.pg_slice_memory.specs.Stamped.{AreStamps, IsIn, IsLast, symbolic_node_in}
 
-abbrev initially : ℕ → ByteSource
+abbrev initially : ℕ → SymbolicByte
 initially b = byte.Initial
 
-after_none : (f : ℕ → ByteSource) → sources_after f [] ≡ f
-unfolding sources_after
+after_none : (f : ℕ → SymbolicByte) → symbolic_nodes_after f [] ≡ f
+unfolding symbolic_nodes_after
 after_none f = refl
 
-after_more : (f : ℕ → ByteSource) (cs : Changes) (c : Change) → sources_after f (cs ++ c ∷ []) ≡ changed (range_of c) c.to (sources_after f cs)
-unfolding sources_after
+after_more : (f : ℕ → SymbolicByte) (cs : Changes) (c : Change) → symbolic_nodes_after f (cs ++ c ∷ []) ≡ changed (range_of c) c.to (symbolic_nodes_after f cs)
+unfolding symbolic_nodes_after
 after_more f [] c = refl
 after_more f (d ∷ cs) c = after_more (changed (range_of d) d.to f) cs c
 
-pub sources_none : (cs : Changes) (b : ℕ) → cs ≡ [] → sources_of cs b ≡ byte.Initial
-sources_none cs b e = ap (λ (ds : Changes). sources_of ds b) e ∙ ap (λ (f : ℕ → ByteSource). f b) (after_none initially)
+pub symbolic_nodes_none : (cs : Changes) (b : ℕ) → cs ≡ [] → symbolic_nodes_of cs b ≡ byte.Initial
+symbolic_nodes_none cs b e = ap (λ (ds : Changes). symbolic_nodes_of ds b) e ∙ ap (λ (f : ℕ → SymbolicByte). f b) (after_none initially)
 
 -- with one change more
-pub sources_more : (cs ds : Changes) (c : Change) → ds ≡ cs ++ c ∷ [] → sources_of ds ≡ changed (range_of c) c.to (sources_of cs)
-sources_more cs ds c e = ap (λ (es : Changes). sources_of es) e ∙ after_more initially cs c
+pub symbolic_nodes_more : (cs ds : Changes) (c : Change) → ds ≡ cs ++ c ∷ [] → symbolic_nodes_of ds ≡ changed (range_of c) c.to (symbolic_nodes_of cs)
+symbolic_nodes_more cs ds c e = ap (λ (es : Changes). symbolic_nodes_of es) e ∙ after_more initially cs c
 
 -- ---- stamps
 
@@ -48,18 +48,18 @@ before_end (d ∷ cs) c zero h = refl
 before_end (d ∷ cs) c (suc i) h = before_end cs c i (omega arith)
 
 last_none : (cs : Changes) (n b : ℕ) → cs ≡ [] → n ≡ 0 → IsLast cs n b
-last_none cs zero b e z = record { among = omega arith; source = sources_none cs b e; inside = tt }
+last_none cs zero b e z = record { among = omega arith; symbolic_node = symbolic_nodes_none cs b e; inside = tt }
 last_none cs (suc n) b e z = absurd (omega arith)
 
 pub no_stamps : (cs : Changes) (s : Stamps) → cs ≡ [] → ((x : ℕ) → greatest_at s x ≡ 0) → AreStamps cs s
-no_stamps cs s e z = record { last = λ b h. last_none cs (greatest_at s b) b e (z b); behind = λ b h. sources_none cs b e }
+no_stamps cs s e z = record { last = λ b h. last_none cs (greatest_at s b) b e (z b); behind = λ b h. symbolic_nodes_none cs b e }
 
 module _ (cs ds : Changes) (c : Change) (d : ds ≡ cs ++ c ∷ []) where
   longer : length ds ≡ length cs + 1
   longer = ap (λ (es : Changes). length es) d ∙ length-append cs (c ∷ [])
 
-  source_at : (b : ℕ) (v : Bool) → is_within (range_of c) b ≡ v → sources_of ds b ≡ (if v then part_of c.to (b - c.start) else sources_of cs b)
-  source_at b v e = ap (λ (f : ℕ → ByteSource). f b) (sources_more cs ds c d) ∙ ap (λ (w : Bool). if w then part_of c.to (b - c.start) else sources_of cs b) e
+  symbolic_node_at : (b : ℕ) (v : Bool) → is_within (range_of c) b ≡ v → symbolic_nodes_of ds b ≡ (if v then part_of c.to (b - c.start) else symbolic_nodes_of cs b)
+  symbolic_node_at b v e = ap (λ (f : ℕ → SymbolicByte). f b) (symbolic_nodes_more cs ds c d) ∙ ap (λ (w : Bool). if w then part_of c.to (b - c.start) else symbolic_nodes_of cs b) e
 
   -- a byte that the last change holds
   last_of : ((k : ℕ) → k < c.bytes → IsPlaceIn c.to k) → (b n : ℕ) → is_within (range_of c) b ≡ true → n ≡ length cs + 1 → IsLast ds n b
@@ -71,18 +71,18 @@ module _ (cs ds : Changes) (c : Change) (d : ds ≡ cs ++ c ∷ []) where
       let k : i ≡ length cs = omega (arith, e) in
       let g : slice_get ds i ≡ Some c = ap (slice_get ds) k ∙ ap (λ (es : Changes). slice_get es (length cs)) d ∙ at_end cs c in record {
         among = let l = longer in omega (arith, l, e);
-        source = source_at b true w ∙ sym (ap (λ (o : Option Change). source_in o b) g);
+        symbolic_node = symbolic_node_at b true w ∙ sym (ap (λ (o : Option Change). symbolic_node_in o b) g);
         inside = rw g (from, places (b - c.start) (omega (arith, from, below)));
       }
 
   -- a byte that it doesn't hold
   last_kept : (b n : ℕ) → is_within (range_of c) b ≡ false → IsLast cs n b → IsLast ds n b
-  last_kept b zero w h = record { among = omega arith; source = source_at b false w ∙ h.source; inside = tt }
+  last_kept b zero w h = record { among = omega arith; symbolic_node = symbolic_node_at b false w ∙ h.symbolic_node; inside = tt }
   last_kept b (suc i) w h =
       let a = h.among in
       let g : slice_get ds i ≡ slice_get cs i = ap (λ (es : Changes). slice_get es i) d ∙ before_end cs c i (omega (arith, a)) in record {
         among = let l = longer in omega (arith, l, a);
-        source = source_at b false w ∙ h.source ∙ sym (ap (λ (o : Option Change). source_in o b) g);
+        symbolic_node = symbolic_node_at b false w ∙ h.symbolic_node ∙ sym (ap (λ (o : Option Change). symbolic_node_in o b) g);
         inside = rw g h.inside;
       }
 
@@ -104,10 +104,10 @@ module _ (cs ds : Changes) (c : Change) (d : ds ≡ cs ++ c ∷ []) where
               let k : greatest_at new b ≡ greatest_at old b = omega (arith, g) in
               subst (λ (n : ℕ). IsLast ds n b) (sym k) (last_kept b (greatest_at old b) w (s.last b h))
 
-      behind : (b : ℕ) → PLACE_COUNT ≤ b → sources_of ds b ≡ byte.Initial
+      behind : (b : ℕ) → PLACE_COUNT ≤ b → symbolic_nodes_of ds b ≡ byte.Initial
       behind b h =
           let w : is_within (range_of c) b ≡ false = and_right (nat_le c.start b) (nat_lt b (c.start + c.bytes)) (le-ltb b (c.start + c.bytes) (omega (arith, below, h))) in
-          source_at b false w ∙ s.behind b h
+          symbolic_node_at b false w ∙ s.behind b h
 
 -- ---- the last change of a byte
 

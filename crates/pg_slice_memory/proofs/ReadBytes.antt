@@ -8,15 +8,15 @@ use Rattle.pg_ir.specs.Program.{NumberedProgram}
 use Rattle.pg_run_memory.specs.Initial.{initial_byte}
 use Rattle.pg_precondition.specs.Nodes.{NodeList}
 use Rattle.pg_precondition.specs.Values.{joined, number_of, numbers_of, with_one}
-use Rattle.pg_slice_rules.specs.Shadows.{Shadow, loaded, valued}
-use Rattle.pg_slice_memory.specs.declared.source.ByteSource.{ByteSource}
-use Rattle.pg_slice_memory.specs.declared.source.ByteSource.TheVariants as byte
-use Rattle.pg_slice_memory.specs.Changes.{Changes, shadows_of, sources_of}
-use Rattle.pg_slice_values.specs.Sources.{Grew, number_by}
-use Rattle.pg_slice_memory.specs.Loads.{IsByteNode, shadows_from, source_in}
-use Rattle.pg_slice_memory.specs.Sources.{byte_shadow}
+use Rattle.pg_slice_rules.specs.SymbolicValues.{Symbolic, loaded, valued}
+use Rattle.pg_slice_memory.specs.declared.symbolic_node.SymbolicByte.{SymbolicByte}
+use Rattle.pg_slice_memory.specs.declared.symbolic_node.SymbolicByte.TheVariants as byte
+use Rattle.pg_slice_memory.specs.Changes.{Changes, symbolics_of, symbolic_nodes_of}
+use Rattle.pg_slice_values.specs.SymbolicNodes.{Grew, number_by}
+use Rattle.pg_slice_memory.specs.Loads.{IsByteNode, symbolics_from, symbolic_node_in}
+use Rattle.pg_slice_memory.specs.SymbolicNodes.{byte_symbolic}
 use Rattle.pg_slice_memory.proofs.ByteNodes.{byte_node_kept}
-use Rattle.pg_slice_memory.proofs.LoadedNumbers.{join_loaded, loaded_same, shadow_at}
+use Rattle.pg_slice_memory.proofs.LoadedNumbers.{join_loaded, loaded_same, symbolic_at}
 
 pub ok_both : {X E : Type 0} (r : Result X E) (P Q R : X → Type 0) → ((x : X) → P x → Q x → R x) → IfOk r P → IfOk r Q → IfOk r R
 ok_both (Ok x) P Q R f p q = f x p q
@@ -40,15 +40,15 @@ set_next Q xs k x d l h q =
 
 -- ---- what is read
 
-pub read_same : (p : NumberedProgram) (ns : NodeList) (cs : Changes) (xs : List ByteSource) (start n : ℕ) → ((k : ℕ) → k < n → source_in xs k ≡ sources_of cs (start + k)) →
-    loaded (shadows_from p ns start xs) start n ≡ loaded (shadows_of p ns cs) start n
+pub read_same : (p : NumberedProgram) (ns : NodeList) (cs : Changes) (xs : List SymbolicByte) (start n : ℕ) → ((k : ℕ) → k < n → symbolic_node_in xs k ≡ symbolic_nodes_of cs (start + k)) →
+    loaded (symbolics_from p ns start xs) start n ≡ loaded (symbolics_of p ns cs) start n
 read_same p ns cs xs start n h =
-    loaded_same (shadows_from p ns start xs) (shadows_of p ns cs) start n (λ k lt. shadow_at p ns start xs k ∙ ap (λ (s : ByteSource). byte_shadow p ns (start + k) s) (h k lt))
+    loaded_same (symbolics_from p ns start xs) (symbolics_of p ns cs) start n (λ k lt. symbolic_at p ns start xs k ∙ ap (λ (s : SymbolicByte). byte_symbolic p ns (start + k) s) (h k lt))
 
 -- ---- the nodes of bytes
 
 pub initial_node : (p : NumberedProgram) (ns ms : NodeList) (b x k : ℕ) → x ≡ initial_byte p.globals b → x < 256 → k < length ms →
-    ((input : List ℤ) → number_by ms k input ≡ Some x) → IsByteNode ms k (byte_shadow p ns b byte.Initial)
+    ((input : List ℤ) → number_by ms k input ≡ Some x) → IsByteNode ms k (byte_symbolic p ns b byte.Initial)
 initial_node p ns ms b x k e small below h = record {
   below = below;
   value = ap (λ f. valued f) (fun_ext (λ input. h input ∙ ap (λ (n : ℕ). Some n) e));
@@ -61,7 +61,7 @@ part_small (Some n) at = omega arith
 
 pub part_node : (p : NumberedProgram) (ns ms : NodeList) (b of at k : ℕ) → k < length ms →
     ((input : List ℤ) → number_by ms k input ≡ with_one (number_of (numbers_of input ns) of) (λ n. Some (n / 2 ^ (8 * at) % 2 ^ 8))) →
-    IsByteNode ms k (byte_shadow p ns b (byte.Part of at))
+    IsByteNode ms k (byte_symbolic p ns b (byte.Part of at))
 part_node p ns ms b of at k below h = record {
   below = below;
   value = ap (λ f. valued f) (fun_ext h);
@@ -69,15 +69,15 @@ part_node p ns ms b of at k below h = record {
 }
 
 -- one byte more has a node
-pub nodes_next : (ns ms : NodeList) (S : ℕ → Shadow) (parts : List ℕ) (k v : ℕ) → k < length parts → Grew ns ms →
+pub nodes_next : (ns ms : NodeList) (S : ℕ → Symbolic) (parts : List ℕ) (k v : ℕ) → k < length parts → Grew ns ms →
     ((j : ℕ) → j < k → IsByteNode ns (slice_index parts j) (S j)) → IsByteNode ms v (S k) →
     (j : ℕ) → j < k + 1 → IsByteNode ms (slice_index (slice_set parts k v) j) (S j)
 nodes_next ns ms S parts k v l g h n = set_next (λ j x. IsByteNode ms x (S j)) parts k v 0 l (λ j lt. byte_node_kept ns ms (slice_index parts j) (S j) g (h j lt)) n
 
 -- the node that joins them
-pub join_read : (p : NumberedProgram) (old ns ms : NodeList) (start : ℕ) (xs : List ByteSource) (parts : List ℕ) (n v : ℕ) → n ≤ length parts →
-    ((j : ℕ) → j < n → IsByteNode ns (slice_index parts j) (byte_shadow p old (start + j) (source_in xs j))) →
-    ((input : List ℤ) → number_by ms v input ≡ joined (numbers_of input ns) parts n) → valued (number_by ms v) ≡ loaded (shadows_from p old start xs) start n
+pub join_read : (p : NumberedProgram) (old ns ms : NodeList) (start : ℕ) (xs : List SymbolicByte) (parts : List ℕ) (n v : ℕ) → n ≤ length parts →
+    ((j : ℕ) → j < n → IsByteNode ns (slice_index parts j) (byte_symbolic p old (start + j) (symbolic_node_in xs j))) →
+    ((input : List ℤ) → number_by ms v input ≡ joined (numbers_of input ns) parts n) → valued (number_by ms v) ≡ loaded (symbolics_from p old start xs) start n
 join_read p old ns ms start xs parts n v l each h =
     ap (λ f. valued f) (fun_ext h)
-    ∙ join_loaded (shadows_from p old start xs) ns parts start n l (λ j lt. subst (IsByteNode ns (slice_index parts j)) (sym (shadow_at p old start xs j)) (each j lt))
+    ∙ join_loaded (symbolics_from p old start xs) ns parts start n l (λ j lt. subst (IsByteNode ns (slice_index parts j)) (sym (symbolic_at p old start xs j)) (each j lt))

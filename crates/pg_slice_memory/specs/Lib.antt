@@ -1,4 +1,4 @@
-pub mod Sources
+pub mod SymbolicNodes
 pub mod Changes
 pub mod Stamped
 pub mod Loads

@@ -1,9 +1,9 @@
 //! A change of what is known of memory.
 
 ghost use Rattle.std.specs.Prelude.{◌≡◌, ◌≤◌, ◌-◌, ◌<◌};
-ghost use Rattle.pg_slice_memory.specs.Sources.{IsPlaceIn, part_of};
+ghost use Rattle.pg_slice_memory.specs.SymbolicNodes.{IsPlaceIn, part_of};
 
-use crate::source::{ByteSource, Held};
+use crate::symbolic_node::{Held, SymbolicByte};
 
 /// The bytes from a place on that are from then on those of a number, or are not known any more.
 #[derive(Clone, Copy)]
@@ -15,17 +15,17 @@ pub struct Change {
 
 impl Change {
     /// What is known of a byte after the change.
-    pub(crate) fn source(&self, byte: u64) -> ByteSource
+    pub(crate) fn symbolic_node(&self, byte: u64) -> SymbolicByte
         requires from { self.now.start ≤ byte }
         requires place { IsPlaceIn self.now.to (byte - self.now.start) }
-        ensures source { result ≡ part_of self.now.to (byte - self.now.start) }
+        ensures symbolic_node { result ≡ part_of self.now.to (byte - self.now.start) }
     {
         match self.to {
-            Held::Known(of) => ByteSource::Part {
+            Held::Known(of) => SymbolicByte::Part {
                 of,
                 at: (byte - self.start) as u8,
             },
-            Held::Unknown(by) => ByteSource::Unknown(by),
+            Held::Unknown(by) => SymbolicByte::Unknown(by),
         }
     }
 }

@@ -7,21 +7,21 @@ ghost use Rattle.pg_precondition.specs.Nodes.{NodeList};
 ghost use Rattle.pg_num.specs.Places.{ByteRange};
 ghost use Rattle.pg_slice_rules.specs.declared.decision.Decision.{Decision};
 ghost use Rattle.pg_slice_rules.specs.Freeable.{bounds_of};
-ghost use Rattle.pg_slice_rules.specs.Shadows.{Bounded, OnInput, Shadow, Unknown, stored};
+ghost use Rattle.pg_slice_rules.specs.SymbolicValues.{Bounded, OnInput, Symbolic, Unknown, stored};
 ghost use Rattle.pg_stamps.specs.declared.stamps.TheConstants.{PLACE_COUNT};
-ghost use Rattle.pg_slice_memory.specs.Changes.{AreSources, Changes, shadows_of};
-ghost use Rattle.pg_slice_values.specs.Sources.{Grew};
+ghost use Rattle.pg_slice_memory.specs.Changes.{AreSymbolicNodes, Changes, symbolics_of};
+ghost use Rattle.pg_slice_values.specs.SymbolicNodes.{Grew};
 
 /// Nodes that are added change nothing of what is known of the bytes.
 #[tactic(auto, using(crate::proofs::ByteNodes::names_more))]
 pub fn more_nodes_change_nothing()
-    ensures shadow { (p : NumberedProgram) (old new : NodeList) (cs : Changes) → Grew old new → AreSources (length old) cs → shadows_of p new cs ≡ shadows_of p old cs }
-    ensures names { (m n : ℕ) (cs : Changes) → m ≤ n → AreSources m cs → AreSources n cs }
+    ensures symbolic { (p : NumberedProgram) (old new : NodeList) (cs : Changes) → Grew old new → AreSymbolicNodes (length old) cs → symbolics_of p new cs ≡ symbolics_of p old cs }
+    ensures names { (m n : ℕ) (cs : Changes) → m ≤ n → AreSymbolicNodes m cs → AreSymbolicNodes n cs }
 {}
 
 /// A pointer of which only the bounds are known is stored as a number that isn't known.
 pub fn bounds_give_no_bytes()
-    ensures { (r : ByteRange) (f : OnInput) (x : Decision) (bytes : ℕ → Shadow) → stored r (Bounded f x) bytes ≡ stored r (Unknown x) bytes }
+    ensures { (r : ByteRange) (f : OnInput) (x : Decision) (bytes : ℕ → Symbolic) → stored r (Bounded f x) bytes ≡ stored r (Unknown x) bytes }
 {}
 
 /// Each byte of memory has a place, and so has each byte within the bounds of any word.

@@ -9,9 +9,9 @@ mod load;
 mod memory;
 mod parts;
 mod places;
-mod source;
+mod symbolic_node;
 
 pub use change::Change;
-pub use memory::ShadowMemory;
+pub use memory::SymbolicMemory;
 pub use places::place_of;
-pub use source::{ByteSource, Held};
+pub use symbolic_node::{Held, SymbolicByte};

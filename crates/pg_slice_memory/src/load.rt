@@ -1,15 +1,15 @@
-//! The source of a number that is loaded.
+//! The symbolic value of a number that is loaded.
 
 ghost use Rattle.std.specs.Prelude.{◌≡◌, ◌≤◌, ◌<◌, ◌+◌, ℕ, IfOk, length, true};
-ghost use Rattle.pg_slice_rules.specs.Shadows as shadows;
+ghost use Rattle.pg_slice_rules.specs.SymbolicValues as symbolics;
 ghost use Rattle.pg_stamps.specs.declared.stamps.TheConstants.{PLACE_COUNT};
-ghost use Rattle.pg_slice_values.specs.Sources.{Grew, number_by};
-ghost use Rattle.pg_slice_memory.specs.Loads.{AreKnown, AreNamed, IsByteNode, is_known_byte, shadows_from};
-ghost use Rattle.pg_slice_memory.specs.Sources.{IsPart, IsSource, byte_shadow};
+ghost use Rattle.pg_slice_values.specs.SymbolicNodes.{Grew, number_by};
+ghost use Rattle.pg_slice_memory.specs.Loads.{AreKnown, AreNamed, IsByteNode, is_known_byte, symbolics_from};
+ghost use Rattle.pg_slice_memory.specs.SymbolicNodes.{IsPart, IsSymbolicNode, byte_symbolic};
 
 use crate::initial::{initial_byte, initial_number};
 use crate::parts::{are_initial, whole};
-use crate::source::ByteSource;
+use crate::symbolic_node::SymbolicByte;
 use pg_ir::Program;
 use pg_num::Width;
 use pg_precondition::{CastKind, Node, Nodes};
@@ -21,18 +21,18 @@ fn byte_node(
     p: &Program,
     nodes: &mut Nodes,
     byte: u64,
-    source: ByteSource,
+    symbolic_node: SymbolicByte,
 ) -> Result<u32, AllocError>
-    requires known { is_known_byte source ≡ true }
-    requires names { IsSource (length nodes.old) source }
-    requires part { IsPart source }
+    requires known { is_known_byte symbolic_node ≡ true }
+    requires names { IsSymbolicNode (length nodes.old) symbolic_node }
+    requires part { IsPart symbolic_node }
     ensures grew { Grew nodes.old nodes.new }
-    ensures node { IfOk result (λ k. IsByteNode nodes.new k (byte_shadow p.now nodes.old byte source)) }
+    ensures node { IfOk result (λ k. IsByteNode nodes.new k (byte_symbolic p.now nodes.old byte symbolic_node)) }
 {
-    match source {
-        ByteSource::Initial => added(nodes, Node::Const(initial_byte(p, byte) as u64)),
-        ByteSource::Part { of, at } => added(nodes, Node::Byte { of, at }),
-        ByteSource::Unknown(_) => unreachable!(),
+    match symbolic_node {
+        SymbolicByte::Initial => added(nodes, Node::Const(initial_byte(p, byte) as u64)),
+        SymbolicByte::Part { of, at } => added(nodes, Node::Byte { of, at }),
+        SymbolicByte::Unknown(_) => unreachable!(),
     }
 }
 
@@ -41,19 +41,19 @@ pub(crate) fn number_node(
     p: &Program,
     nodes: &mut Nodes,
     start: u64,
-    sources: &[ByteSource; 8],
+    symbolic_nodes: &[SymbolicByte; 8],
     count: u8,
 ) -> Result<u32, AllocError>
     requires some { 1 ≤ count }
     requires count { count ≤ 8 }
     requires end { start + count ≤ PLACE_COUNT }
-    requires known { AreKnown sources.now count }
-    requires named { AreNamed (length nodes.old) sources.now count }
+    requires known { AreKnown symbolic_nodes.now count }
+    requires named { AreNamed (length nodes.old) symbolic_nodes.now count }
     ensures grew { Grew nodes.old nodes.new }
     ensures is { IfOk result (λ k. k < length nodes.new) }
-    ensures value { IfOk result (λ k. shadows.valued (number_by nodes.new k) ≡ shadows.loaded (shadows_from p.now nodes.old start sources.now) start count) }
+    ensures value { IfOk result (λ k. symbolics.valued (number_by nodes.new k) ≡ symbolics.loaded (symbolics_from p.now nodes.old start symbolic_nodes.now) start count) }
 {
-    if let Some((of, width)) = whole(sources, count) {
+    if let Some((of, width)) = whole(symbolic_nodes, count) {
         return added(
             nodes,
             Node::Cast {
@@ -64,12 +64,12 @@ pub(crate) fn number_node(
             },
         );
     }
-    if are_initial(sources, count) {
+    if are_initial(symbolic_nodes, count) {
         return added(nodes, Node::Const(initial_number(p, start, count)));
     }
     let mut parts = [0; 8];
     for k in 0..count {
-        parts[k as usize] = byte_node(p, nodes, start + k as u64, sources[k as usize])?;
+        parts[k as usize] = byte_node(p, nodes, start + k as u64, symbolic_nodes[k as usize])?;
     }
     added(nodes, Node::Join { parts, count })
 }

@@ -4,21 +4,21 @@ ghost use Rattle.std.specs.Prelude.{◌≡◌, ◌≤◌, ◌*◌, ℕ, IfNone, 
 ghost use Rattle.pg_ir.specs.Program.{NumberedProgram};
 ghost use Rattle.pg_precondition.specs.Nodes.{NodeList};
 ghost use Rattle.pg_num.specs.Numbers.{width_bits};
-ghost use Rattle.pg_slice_rules.specs.Shadows as shadows;
-ghost use Rattle.pg_slice_memory.specs.Loads.{AreInitial, AreKnown, ArePartsOf, is_part, shadows_from};
+ghost use Rattle.pg_slice_rules.specs.SymbolicValues as symbolics;
+ghost use Rattle.pg_slice_memory.specs.Loads.{AreInitial, AreKnown, ArePartsOf, is_part, symbolics_from};
 
-use crate::source::ByteSource;
+use crate::symbolic_node::SymbolicByte;
 use pg_num::Width;
 use pg_slice_rules::Decision;
 
 /// The decision that is blamed for the first byte that isn't known.
-pub(crate) fn first_unknown(sources: &[ByteSource; 8], count: u8) -> Option<Decision>
+pub(crate) fn first_unknown(symbolic_nodes: &[SymbolicByte; 8], count: u8) -> Option<Decision>
     requires { count ≤ 8 }
-    ensures some { IfSome result (λ x. (p : NumberedProgram) (ns : NodeList) (start : ℕ) → shadows.loaded (shadows_from p ns start sources.now) start count ≡ shadows.Unknown x) }
-    ensures none { IfNone result (AreKnown sources.now count) }
+    ensures some { IfSome result (λ x. (p : NumberedProgram) (ns : NodeList) (start : ℕ) → symbolics.loaded (symbolics_from p ns start symbolic_nodes.now) start count ≡ symbolics.Unknown x) }
+    ensures none { IfNone result (AreKnown symbolic_nodes.now count) }
 {
     for k in 0..count {
-        if let ByteSource::Unknown(by) = sources[k as usize] {
+        if let SymbolicByte::Unknown(by) = symbolic_nodes[k as usize] {
             return Some(by);
         }
     }
@@ -26,22 +26,22 @@ pub(crate) fn first_unknown(sources: &[ByteSource; 8], count: u8) -> Option<Deci
 }
 
 /// Whether a byte is this one of a node's number.
-fn is_part(source: ByteSource, of: u32, place: u8) -> bool
-    ensures { result ≡ is_part of place source }
+fn is_part(symbolic_node: SymbolicByte, of: u32, place: u8) -> bool
+    ensures { result ≡ is_part of place symbolic_node }
 {
-    match source {
-        ByteSource::Part { of: node, at } => node == of && at == place,
-        ByteSource::Initial | ByteSource::Unknown(_) => false,
+    match symbolic_node {
+        SymbolicByte::Part { of: node, at } => node == of && at == place,
+        SymbolicByte::Initial | SymbolicByte::Unknown(_) => false,
     }
 }
 
 /// Whether the bytes are those of a node's number, the lowest first.
-fn are_parts(sources: &[ByteSource; 8], count: u8, of: u32) -> bool
+fn are_parts(symbolic_nodes: &[SymbolicByte; 8], count: u8, of: u32) -> bool
     requires { count ≤ 8 }
-    ensures { IsTrue result → ArePartsOf of sources.now count }
+    ensures { IsTrue result → ArePartsOf of symbolic_nodes.now count }
 {
     for k in 0..count {
-        if !is_part(sources[k as usize], of, k) {
+        if !is_part(symbolic_nodes[k as usize], of, k) {
             return false;
         }
     }
@@ -62,32 +62,32 @@ fn width_of(count: u8) -> Option<Width>
 }
 
 /// The node of whose number the bytes are the lowest, and the width that they have together, where they are so.
-pub(crate) fn whole(sources: &[ByteSource; 8], count: u8) -> Option<(u32, Width)>
+pub(crate) fn whole(symbolic_nodes: &[SymbolicByte; 8], count: u8) -> Option<(u32, Width)>
     requires { count ≤ 8 }
-    ensures { IfSome result (λ r. ArePartsOf r.0 sources.now count × (width_bits r.1 ≡ 8 * count)) }
+    ensures { IfSome result (λ r. ArePartsOf r.0 symbolic_nodes.now count × (width_bits r.1 ≡ 8 * count)) }
 {
     let width = width_of(count)?;
-    match sources[0] {
-        ByteSource::Part { of, .. } => {
-            if are_parts(sources, count, of) {
+    match symbolic_nodes[0] {
+        SymbolicByte::Part { of, .. } => {
+            if are_parts(symbolic_nodes, count, of) {
                 Some((of, width))
             } else {
                 None
             }
         }
-        ByteSource::Initial | ByteSource::Unknown(_) => None,
+        SymbolicByte::Initial | SymbolicByte::Unknown(_) => None,
     }
 }
 
 /// Whether the bytes are as at the start.
-pub(crate) fn are_initial(sources: &[ByteSource; 8], count: u8) -> bool
+pub(crate) fn are_initial(symbolic_nodes: &[SymbolicByte; 8], count: u8) -> bool
     requires { count ≤ 8 }
-    ensures { IsTrue result → AreInitial sources.now count }
+    ensures { IsTrue result → AreInitial symbolic_nodes.now count }
 {
     for k in 0..count {
-        match sources[k as usize] {
-            ByteSource::Initial => {}
-            ByteSource::Part { .. } | ByteSource::Unknown(_) => return false,
+        match symbolic_nodes[k as usize] {
+            SymbolicByte::Initial => {}
+            SymbolicByte::Part { .. } | SymbolicByte::Unknown(_) => return false,
         }
     }
     true

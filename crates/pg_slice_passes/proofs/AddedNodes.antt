@@ -7,8 +7,8 @@ use Rattle.pg_ir.specs.Program.{NumberedProgram}
 use Rattle.pg_precondition.specs.Nodes.{NodeList}
 use Rattle.pg_slice_rules.specs.Freeable.{FreeAccess, FreeRegion}
 use Rattle.pg_slice_rules.specs.Known.{Seen}
-use Rattle.pg_slice_rules.specs.Rules.{Need, all_of, free_access_needs, path_needs, registers_before, region_needs_in, root_shadow}
-use Rattle.pg_slice_rules.specs.Shadows.{Shadow}
+use Rattle.pg_slice_rules.specs.Rules.{Need, all_of, free_access_needs, path_needs, registers_before, region_needs_in, root_symbolic}
+use Rattle.pg_slice_rules.specs.SymbolicValues.{Symbolic}
 use Rattle.pg_slice_checks.specs.Asks.{Adds}
 use Rattle.pg_slice_checks.specs.Paths.{AreCells}
 use Rattle.pg_slice_checks.specs.declared.asked.Asked.{Asked}
@@ -18,21 +18,21 @@ use Rattle.pg_slice_replay.specs.Given.{access_as}
 use Rattle.pg_slice_replay.specs.Landmarks.{Landmark}
 use Rattle.pg_slice_replay.specs.Paths.{cells_of}
 use Rattle.pg_slice_replay.specs.declared.run.FreeAccess as declared
-use Rattle.pg_slice_registers.specs.Sourced.{AreSources, registers_by}
+use Rattle.pg_slice_registers.specs.SymbolicRegisterNodes.{AreSymbolicNodes, registers_by}
 use Rattle.pg_slice_registers.proofs.KeptValues.{registers_kept}
-use Rattle.pg_slice_values.specs.declared.source.Source.{Source}
-use Rattle.pg_slice_values.specs.Sources.{Grew, IsSource, shadow_by}
-use Rattle.pg_slice_values.proofs.GrowingNodes.{grew_length, grew_then, shadow_kept, source_more}
+use Rattle.pg_slice_values.specs.declared.symbolic_node.SymbolicNode.{SymbolicNode}
+use Rattle.pg_slice_values.specs.SymbolicNodes.{Grew, IsSymbolicNode, symbolic_by}
+use Rattle.pg_slice_values.proofs.GrowingNodes.{grew_length, grew_then, symbolic_kept, symbolic_node_more}
 
 -- what was read by the registers stays so while nodes are added
-pub later : (f : List Shadow → Shadow) (first second ns : NodeList) (s : Source) (registers : List Source) → Grew first second → Grew second ns → IsSource (length second) s
-    → AreSources (length first) registers →
-    shadow_by second s ≡ f (registers_by first registers) → shadow_by ns s ≡ f (registers_by ns registers)
+pub later : (f : List Symbolic → Symbolic) (first second ns : NodeList) (s : SymbolicNode) (registers : List SymbolicNode) → Grew first second → Grew second ns → IsSymbolicNode (length second) s
+    → AreSymbolicNodes (length first) registers →
+    symbolic_by second s ≡ f (registers_by first registers) → symbolic_by ns s ≡ f (registers_by ns registers)
 later f first second ns s registers g h is are e =
-    shadow_kept second ns s h is ∙ e ∙ ap f (sym (registers_kept first ns registers (grew_then first second ns g h) are))
+    symbolic_kept second ns s h is ∙ e ∙ ap f (sym (registers_kept first ns registers (grew_then first second ns g h) are))
 
-pub is_later : (second ns : NodeList) (s : Source) → Grew second ns → IsSource (length second) s → IsSource (length ns) s
-is_later second ns s g is = source_more (length second) (length ns) s (grew_length second ns g) is
+pub is_later : (second ns : NodeList) (s : SymbolicNode) → Grew second ns → IsSymbolicNode (length second) s → IsSymbolicNode (length ns) s
+is_later second ns s g is = symbolic_node_more (length second) (length ns) s (grew_length second ns g) is
 
 -- ---- a path
 
@@ -45,13 +45,13 @@ cells_cut (k ∷ ks) (w ∷ ws) h = (refl, cells_cut ks ws (omega (arith, h)))
 abbrev cut : List ℕ → List ℕ → List ℕ
 cut ws ks = take (length ks) ws
 
-pub path_adds : (p : NumberedProgram) (ns : NodeList) (bytes : ℕ → Shadow) (rs : List Shadow) (from : Shadow) (access : declared.FreeAccess) (offsets pointers : List ℕ) (old new : Asked) →
-    offsets ≡ offsets_of access.path.loads → pointers ≡ take (length offsets) access.pointers → length offsets ≤ length pointers → from ≡ root_shadow p rs access.path.root →
+pub path_adds : (p : NumberedProgram) (ns : NodeList) (bytes : ℕ → Symbolic) (rs : List Symbolic) (from : Symbolic) (access : declared.FreeAccess) (offsets pointers : List ℕ) (old new : Asked) →
+    offsets ≡ offsets_of access.path.loads → pointers ≡ take (length offsets) access.pointers → length offsets ≤ length pointers → from ≡ root_symbolic p rs access.path.root →
     Adds ns (path_needs bytes from offsets pointers (cells_of pointers offsets) access.last) old new → (a : FreeAccess) → access_as access ≡ a →
-    Adds ns (path_needs bytes (root_shadow p rs a.path.root) (offsets_of a.path.loads) a.at.pointers a.at.cells a.at.last) old new
+    Adds ns (path_needs bytes (root_symbolic p rs a.path.root) (offsets_of a.path.loads) a.at.pointers a.at.cells a.at.last) old new
 path_adds p ns bytes rs from access offsets pointers old new e f l r h a q =
-    subst (λ (y : FreeAccess). Adds ns (path_needs bytes (root_shadow p rs y.path.root) (offsets_of y.path.loads) y.at.pointers y.at.cells y.at.last) old new) q
-    (subst (λ (s : Shadow). Adds ns (path_needs bytes s (offsets_of access.path.loads) (cut access.pointers (offsets_of access.path.loads))
+    subst (λ (y : FreeAccess). Adds ns (path_needs bytes (root_symbolic p rs y.path.root) (offsets_of y.path.loads) y.at.pointers y.at.cells y.at.last) old new) q
+    (subst (λ (s : Symbolic). Adds ns (path_needs bytes s (offsets_of access.path.loads) (cut access.pointers (offsets_of access.path.loads))
     (cells_of (cut access.pointers (offsets_of access.path.loads)) (offsets_of access.path.loads)) access.last) old new) r
     (subst (λ (ks : List ℕ). Adds ns (path_needs bytes from ks (cut access.pointers ks) (cells_of (cut access.pointers ks) ks) access.last) old new) e
     (subst (λ (ws : List ℕ). Adds ns (path_needs bytes from offsets ws (cells_of ws offsets) access.last) old new) f h)))
@@ -72,9 +72,9 @@ past_all [] (suc i) h = refl
 past_all (x ∷ xs) zero h = absurd (omega (arith, h))
 past_all (x ∷ xs) (suc i) h = past_all xs i (omega (arith, h))
 
-module _ (p : NumberedProgram) (ns : NodeList) (x : Seen) (bytes : ℕ → Shadow) (rs : List Shadow) (read : registers_before x ≡ rs) (known : x.before.bytes ≡ bytes) where
+module _ (p : NumberedProgram) (ns : NodeList) (x : Seen) (bytes : ℕ → Symbolic) (rs : List Symbolic) (read : registers_before x ≡ rs) (known : x.before.bytes ≡ bytes) where
   pub access_more : (f : FreeRegion) (k : ℕ) (a : FreeAccess) (old between done : Asked) → slice_get f.accesses k ≡ Some a →
-      Adds ns (path_needs bytes (root_shadow p rs a.path.root) (offsets_of a.path.loads) a.at.pointers a.at.cells a.at.last) old between →
+      Adds ns (path_needs bytes (root_symbolic p rs a.path.root) (offsets_of a.path.loads) a.at.pointers a.at.cells a.at.last) old between →
       Adds ns (all_of (free_access_needs p x) (drop (k + 1) f.accesses)) between done → Adds ns (all_of (free_access_needs p x) (drop k f.accesses)) old done
   access_more f k a old between done e one rest =
       subst (λ (xs : List FreeAccess). Adds ns (all_of (free_access_needs p x) xs) old done) (sym (dropped f.accesses k a e))
@@ -82,8 +82,8 @@ module _ (p : NumberedProgram) (ns : NodeList) (x : Seen) (bytes : ℕ → Shado
     where
       one' : Adds ns (free_access_needs p x a) old between
       one' =
-          subst (λ (b : ℕ → Shadow). Adds ns (path_needs b (root_shadow p (registers_before x) a.path.root) (offsets_of a.path.loads) a.at.pointers a.at.cells a.at.last) old between) (sym known)
-          (subst (λ (l : List Shadow). Adds ns (path_needs bytes (root_shadow p l a.path.root) (offsets_of a.path.loads) a.at.pointers a.at.cells a.at.last) old between) (sym read) one)
+          subst (λ (b : ℕ → Symbolic). Adds ns (path_needs b (root_symbolic p (registers_before x) a.path.root) (offsets_of a.path.loads) a.at.pointers a.at.cells a.at.last) old between) (sym known)
+          (subst (λ (l : List Symbolic). Adds ns (path_needs bytes (root_symbolic p l a.path.root) (offsets_of a.path.loads) a.at.pointers a.at.cells a.at.last) old between) (sym read) one)
 
 pub accesses_end : (p : NumberedProgram) (ns : NodeList) (x : Seen) (f : FreeRegion) (k : ℕ) (old : Asked) → length f.accesses ≤ k
     → Adds ns (all_of (free_access_needs p x) (drop k f.accesses)) old old

@@ -22,7 +22,7 @@ use Rattle.pg_slice_rules.specs.declared.decision.Decision.{Decision}
 use Rattle.pg_slice_rules.specs.declared.decision.Decision.TheVariants.{Pinned, Exact}
 use Rattle.pg_slice_rules.specs.Closed.{admits, asks, asks_at, conditions, conditions_at}
 use Rattle.pg_slice_rules.specs.Freeable.{Regions}
-use Rattle.pg_slice_rules.specs.Known.{Reference, RunShadow, Seen, Taken, after_step, seen_from, seen_in, start_of}
+use Rattle.pg_slice_rules.specs.Known.{Reference, SymbolicState, Seen, Taken, after_step, seen_from, seen_in, start_of}
 use Rattle.pg_slice_rules.specs.Moments.{Moment, moments_from, moments_of, state_after}
 use Rattle.pg_slice_rules.specs.Rules as rules
 use Rattle.pg_slice_rules.specs.Rules.{Need, all_of, asks_disturbed, asks_bounds, asks_pins, asks_shared, asks_values}
@@ -46,7 +46,7 @@ taken_all (suc n) [] h = refl
 taken_all zero (x ∷ xs) h = absurd (omega (arith, h))
 taken_all (suc n) (x ∷ xs) h = ap (λ l. x ∷ l) (taken_all n xs (omega (arith, h)))
 
-seen_length : (R : Reference) (d : Taken) (n : ℕ) (s : RunShadow) (ms : List Moment) → length (seen_from R d n s ms) ≡ length ms
+seen_length : (R : Reference) (d : Taken) (n : ℕ) (s : SymbolicState) (ms : List Moment) → length (seen_from R d n s ms) ≡ length ms
 unfolding seen_from
 seen_length R d n s [] = refl
 seen_length R d n s (m ∷ ms) = ap suc (seen_length R d (suc n) (after_step R d n m s) ms)

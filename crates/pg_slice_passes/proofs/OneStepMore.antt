@@ -27,21 +27,21 @@ use Rattle.pg_run_trace.specs.Races.{recorded, timed_by}
 use Rattle.pg_run_trace.specs.Steps.{access_in}
 use Rattle.pg_slice_rules.specs.declared.decision.Decision.{Decision}
 use Rattle.pg_slice_rules.specs.Closed.{conditions_at}
-use Rattle.pg_slice_rules.specs.Known.{Reference, RunShadow, Seen, Taken, after_step, start_of}
+use Rattle.pg_slice_rules.specs.Known.{Reference, SymbolicState, Seen, Taken, after_step, start_of}
 use Rattle.pg_slice_rules.specs.Moments.{Moment, calls_of, instr_in, moments_from, moments_of, state_after, thread_in}
 use Rattle.pg_slice_rules.specs.Rules as rules
 use Rattle.pg_slice_rules.specs.Rules.{Condition, all_of}
 use Rattle.pg_slice_replay.specs.declared.run.ReferenceRun.{ReferenceRun}
 use Rattle.pg_slice_replay.specs.Landmarks.{landmark_of}
 use Rattle.pg_slice_memory.specs.Changes as bytes
-use Rattle.pg_slice_memory.proofs.ByteNodes.{names_more, shadows_kept}
-use Rattle.pg_slice_registers.proofs.KeptValues.{registers_kept, sources_kept}
+use Rattle.pg_slice_memory.proofs.ByteNodes.{names_more, symbolics_kept}
+use Rattle.pg_slice_registers.proofs.KeptValues.{registers_kept, symbolic_nodes_kept}
 use Rattle.pg_slice_registers.proofs.ThreadsMade.{threads_kept, threads_stay}
-use Rattle.pg_slice_values.specs.Sources.{Grew}
+use Rattle.pg_slice_values.specs.SymbolicNodes.{Grew}
 use Rattle.pg_slice_values.proofs.GrowingNodes.{grew_length, number_kept}
 use Rattle.pg_slice_passes.specs.declared.pass.Gathered.{Gathered}
 use Rattle.pg_slice_passes.specs.declared.footprints.Owner.{Owner}
-use Rattle.pg_slice_passes.specs.declared.state.RunSources.{RunSources}
+use Rattle.pg_slice_passes.specs.declared.state.SymbolicRun.{SymbolicRun}
 use Rattle.pg_law_demands.specs.Along.{known_at, known_from}
 use Rattle.pg_slice_passes.specs.Along.{asked_before, conditions_before, first_steps, own_asks, step_from}
 use Rattle.pg_slice_passes.specs.Given.{HasLandmarks}
@@ -52,21 +52,21 @@ use Rattle.pg_slice_passes.proofs.RunSteps.{known_more, steps_more}
 
 -- ---- while nodes are added
 
-pub knows_kept : (p : NumberedProgram) (old new : NodeList) (pinned : ℕ → Bool) (s : RunSources) (k : RunShadow) → Grew old new → AreKept (length old) s → Knows p old pinned s k
+pub knows_kept : (p : NumberedProgram) (old new : NodeList) (pinned : ℕ → Bool) (s : SymbolicRun) (k : SymbolicState) → Grew old new → AreKept (length old) s → Knows p old pinned s k
     → Knows p new pinned s k
 knows_kept p old new pinned s k g a h = record {
   threads = h.threads ∙ sym (threads_kept old new s.threads.items (extents_of k) g a.threads);
   as_many = h.as_many;
-  bytes = λ b. h.bytes b ∙ ap (λ f. f b) (sym (shadows_kept p old new s.memory g a.bytes));
+  bytes = λ b. h.bytes b ∙ ap (λ f. f b) (sym (symbolics_kept p old new s.memory g a.bytes));
   words = h.words ∙ sym (registers_kept old new s.words.items g a.words);
   extents = h.extents;
 }
 
-pub are_kept : (old new : NodeList) (s : RunSources) → Grew old new → AreKept (length old) s → AreKept (length new) s
+pub are_kept : (old new : NodeList) (s : SymbolicRun) → Grew old new → AreKept (length old) s → AreKept (length new) s
 are_kept old new s g a = record {
   threads = threads_stay old new s.threads.items g a.threads;
   bytes = names_more (length old) (length new) s.memory (grew_length old new g) a.bytes;
-  words = sources_kept old new s.words.items g a.words;
+  words = symbolic_nodes_kept old new s.words.items g a.words;
 }
 
 pub holds_kept : (old new : NodeList) (checks : List Check) (input : List ℤ) → Grew old new → AreNamed (length old) checks → all_hold new checks input ≡ all_hold old checks input
@@ -186,7 +186,7 @@ few_turns xs intervals n x i e h at =
 
 -- ---- the pass
 
-pub is_at : (R : Reference) (d : Taken) (r : ReferenceRun) (n : ℕ) (x : Step) (i : Instr) (ns : NodeList) (s : RunSources) (m : Moment) → HasLandmarks R r → slice_get R.moments n ≡ Some m
+pub is_at : (R : Reference) (d : Taken) (r : ReferenceRun) (n : ℕ) (x : Step) (i : Instr) (ns : NodeList) (s : SymbolicRun) (m : Moment) → HasLandmarks R r → slice_get R.moments n ≡ Some m
     → m.did.did ≡ x →
     slice_get R.program.instrs x.instr.0 ≡ Some i → Knows R.program ns d.pinned s (known_at R d n) → IsAt R d R.program ns s r n x i (step_from R d n (known_at R d n) m)
 is_at R d r n x i ns s m marks got e h k = record {
@@ -216,14 +216,14 @@ module _ (R : Reference) (d : Taken) (n : ℕ) (m : Moment) (got : slice_get R.m
   abbrev pub here : Seen
   here = step_from R d n (known_at R d n) m
 
-  pub passed_more : (old new : NodeList) (g h : Gathered) → Grew old new → HasPassed R d n old g → Knows R.program new d.pinned h.sources (after_step R d n m (known_at R d n)) →
+  pub passed_more : (old new : NodeList) (g h : Gathered) → Grew old new → HasPassed R d n old g → Knows R.program new d.pinned h.symbolic_nodes (after_step R d n m (known_at R d n)) →
       h.asked.missing.items ≡ g.asked.missing.items ++ own_asks R d here →
       ((input : List ℤ) → all_hold new h.asked.checks.items input ≡ (all_hold new g.asked.checks.items input && all_met (conditions_at R d here) input)) →
       AreNamed (length new) h.asked.checks.items → h.footprints.footprints.items ≡ g.footprints.footprints.items ++ (access_footprints here ++ region_footprints here)
       → h.footprints.owners.items ≡ g.footprints.owners.items ++ owners_at here →
       HasPassed R d (n + 1) new h
   passed_more old new g h grew a known missing checks named footprints owned = record {
-    known = subst (λ (k : RunShadow). Knows R.program new d.pinned h.sources k) (sym (known_next R d n m got)) known;
+    known = subst (λ (k : SymbolicState). Knows R.program new d.pinned h.symbolic_nodes k) (sym (known_next R d n m got)) known;
     missing =
         missing
         ∙ ap (λ (l : List Decision). l ++ own_asks R d here) a.missing
@@ -249,7 +249,7 @@ module _ (R : Reference) (d : Taken) (n : ℕ) (m : Moment) (got : slice_get R.m
   }
 
 -- before the first step
-pub passed_none : (R : Reference) (d : Taken) (ns : NodeList) (g : Gathered) → Knows R.program ns d.pinned g.sources (start_of R.program) → g.asked.missing.items ≡ []
+pub passed_none : (R : Reference) (d : Taken) (ns : NodeList) (g : Gathered) → Knows R.program ns d.pinned g.symbolic_nodes (start_of R.program) → g.asked.missing.items ≡ []
     → g.asked.checks.items ≡ [] →
     g.footprints.footprints.items ≡ [] → g.footprints.owners.items ≡ [] → HasPassed R d 0 ns g
 unfolding known_from

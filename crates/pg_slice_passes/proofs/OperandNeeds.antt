@@ -15,7 +15,7 @@ use Rattle.pg_run_trace.specs.declared.step.Event.{Event}
 use Rattle.pg_run_trace.specs.declared.step.Write.{Write}
 use Rattle.pg_run_trace.specs.declared.step.StepKind.TheVariants as kinds
 use Rattle.pg_run_trace.specs.Steps.{access_in, access_by}
-use Rattle.pg_slice_rules.specs.Shadows.{Shadow}
+use Rattle.pg_slice_rules.specs.SymbolicValues.{Symbolic}
 use Rattle.pg_slice_rules.specs.Rules.{Need, Value, address_index, checked, checked_of, edge_tests, is_malloc, write_index}
 use Rattle.pg_slice_checks.specs.Steps.{AreEnough, at, equal_needs, event_needs, bounds_by, bounds_needs, step_needs, value_needs}
 use Rattle.pg_slice_registers.specs.Events.{IsLibraryCall, IsAsked}
@@ -28,16 +28,16 @@ pub index_small : (o : Op) → address_index o ≤ 1
 index_small (op.Store w v at) = omega arith
 index_small o = omega arith
 
-of_two : (s : Shadow) (k : ℕ) → k ≤ 1 → at (s ∷ s ∷ []) k ≡ s
+of_two : (s : Symbolic) (k : ℕ) → k ≤ 1 → at (s ∷ s ∷ []) k ≡ s
 of_two s zero h = refl
 of_two s (suc zero) h = refl
 of_two s (suc (suc k)) h = absurd (omega (arith, h))
 
 -- it asks of its address alone
-pub access_same : (fixed : Bool) (s : Shadow) (ss : List Shadow) (o : Op) (a : Access) → s ≡ at ss (address_index o)
+pub access_same : (fixed : Bool) (s : Symbolic) (ss : List Symbolic) (o : Op) (a : Access) → s ≡ at ss (address_index o)
     → step_needs fixed (s ∷ s ∷ []) o (kinds.Access a) ≡ step_needs fixed ss o (kinds.Access a)
 access_same fixed s ss o a h =
-    ap (λ (x : Shadow). (if a.event || fixed then Value x (test.Eq a.pointer ∷ []) ∷ [] else []) ++ bounds_by x (Some a)) (of_two s (address_index o) (index_small o) ∙ h)
+    ap (λ (x : Symbolic). (if a.event || fixed then Value x (test.Eq a.pointer ∷ []) ∷ [] else []) ++ bounds_by x (Some a)) (of_two s (address_index o) (index_small o) ∙ h)
 
 pub access_enough : (o : Op) (a : Access) → AreEnough o (kinds.Access a) 2
 access_enough o a = let h = index_small o in omega (arith, h)
@@ -77,7 +77,7 @@ call_enough o e = (few_of o, go e.write)
     go None = tt
     go (Some w) = let h = write_small o in omega (arith, h)
 
-module _ (xs ys : List Shadow) (first : at xs 0 ≡ at ys 0) (second : at xs 1 ≡ at ys 1) (third : at xs 2 ≡ at ys 2) where
+module _ (xs ys : List Symbolic) (first : at xs 0 ≡ at ys 0) (second : at xs 1 ≡ at ys 1) (third : at xs 2 ≡ at ys 2) where
   equal_same : (e : Event) (f : LibraryCall) → equal_needs xs e (checked f) ≡ equal_needs ys e (checked f)
   equal_same e known.PthreadCreate = rw (first, second, third) refl
   equal_same e known.PthreadBarrierInit = rw (first, second, third) refl
@@ -113,7 +113,7 @@ module _ (xs ys : List Shadow) (first : at xs 0 ≡ at ys 0) (second : at xs 1 �
   pub event_asks_same : (o : Op) (e : Event) → step_needs false xs o (kinds.Event e) ≡ step_needs false ys o (kinds.Event e)
   event_asks_same o e =
       ap (λ (ns : List Need). ns ++ bounds_by (at xs (write_index o)) (access_by e.write)) (event_same e o e.kind)
-      ∙ ap (λ (s : Shadow). event_needs ys o e e.kind ++ bounds_by s (access_by e.write)) (at_write (write_index o) (write_small o))
+      ∙ ap (λ (s : Symbolic). event_needs ys o e e.kind ++ bounds_by s (access_by e.write)) (at_write (write_index o) (write_small o))
 
 -- ---- steps that ask nothing
 
@@ -121,7 +121,7 @@ no_checks : (o : Op) → is_library_call o ≡ false → checked_of o ≡ []
 no_checks (op.CallLibrary f args) h = absurd (false≢true (sym h))
 no_checks o h = refl
 
-no_event : (ss : List Shadow) (e : Event) (o : Op) (kind : TurnKind) → checked_of o ≡ [] → event_needs ss o e kind ≡ []
+no_event : (ss : List Symbolic) (e : Event) (o : Op) (kind : TurnKind) → checked_of o ≡ [] → event_needs ss o e kind ≡ []
 no_event ss e o turns.Start h = refl
 no_event ss e o kind h = ap (λ (ks : List ℕ). equal_needs ss e ks) h
 
@@ -131,7 +131,7 @@ no_write (op.Ret v) e h fits = fits.1
 no_write o e h fits = fits.1
 
 -- an event that is no call: a start, and an exit by a return
-pub no_call : (fixed : Bool) (ss : List Shadow) (o : Op) (e : Event) → is_library_call o ≡ false → FitsEvent e o → step_needs fixed ss o (kinds.Event e) ≡ []
+pub no_call : (fixed : Bool) (ss : List Symbolic) (o : Op) (e : Event) → is_library_call o ≡ false → FitsEvent e o → step_needs fixed ss o (kinds.Event e) ≡ []
 no_call fixed ss o e h fits =
     ap (λ (ns : List Need). ns ++ bounds_by (at ss (write_index o)) (access_by e.write)) (no_event ss e o e.kind (no_checks o h))
     ∙ ap (λ (w : Option Write). bounds_by (at ss (write_index o)) (access_by w)) (no_write o e h fits)
@@ -150,12 +150,12 @@ branch_asked (op.Switch w on other cases) h = refl
 branch_asked o h = absurd h
 
 -- a branch and an allocation ask of their first operand alone
-pub branch_same : (fixed : Bool) (s : Shadow) (ss : List Shadow) (o : Op) (k : ℕ) → s ≡ at ss 0 → step_needs fixed (s ∷ []) o (kinds.Branch k) ≡ step_needs fixed ss o (kinds.Branch k)
-branch_same fixed s ss o k h = ap (λ (x : Shadow). (if fixed then Value x (edge_tests o k) ∷ [] else []) ++ []) h
+pub branch_same : (fixed : Bool) (s : Symbolic) (ss : List Symbolic) (o : Op) (k : ℕ) → s ≡ at ss 0 → step_needs fixed (s ∷ []) o (kinds.Branch k) ≡ step_needs fixed ss o (kinds.Branch k)
+branch_same fixed s ss o k h = ap (λ (x : Symbolic). (if fixed then Value x (edge_tests o k) ∷ [] else []) ++ []) h
 
-pub size_same : (fixed : Bool) (s : Shadow) (ss : List Shadow) (o : Op) (size place : ℕ) → s ≡ at ss 0
+pub size_same : (fixed : Bool) (s : Symbolic) (ss : List Symbolic) (o : Op) (size place : ℕ) → s ≡ at ss 0
     → step_needs fixed (s ∷ []) o (kinds.Allocation size place) ≡ step_needs fixed ss o (kinds.Allocation size place)
-size_same fixed s ss o size place h = ap (λ (x : Shadow). (if is_malloc o then Value x (test.Eq size ∷ []) ∷ [] else []) ++ []) h
+size_same fixed s ss o size place h = ap (λ (x : Symbolic). (if is_malloc o then Value x (test.Eq size ∷ []) ∷ [] else []) ++ []) h
 
-pub no_size : (fixed : Bool) (ss : List Shadow) (o : Op) (size place : ℕ) → is_malloc o ≡ false → step_needs fixed ss o (kinds.Allocation size place) ≡ []
+pub no_size : (fixed : Bool) (ss : List Symbolic) (o : Op) (size place : ℕ) → is_malloc o ≡ false → step_needs fixed ss o (kinds.Allocation size place) ≡ []
 no_size fixed ss o size place h = ap (λ (b : Bool). (if b then Value (at ss 0) (test.Eq size ∷ []) ∷ [] else []) ++ []) h

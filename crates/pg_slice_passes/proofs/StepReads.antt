@@ -21,11 +21,11 @@ use Rattle.pg_slice_rules.specs.declared.decision.Decision.TheVariants.{Pinned}
 use Rattle.pg_slice_rules.specs.Closed.{conditions_at}
 use Rattle.pg_slice_rules.specs.Extents.{Extent, is_live}
 use Rattle.pg_slice_rules.specs.Freeable.{FreeRegion}
-use Rattle.pg_slice_rules.specs.Known.{Reference, Seen, Taken, ThreadShadow, is_branch, no_thread, operand_shadows, region_of, registers_of, thread_of, top_of}
+use Rattle.pg_slice_rules.specs.Known.{Reference, Seen, Taken, SymbolicThread, is_branch, no_thread, operand_symbolics, region_of, registers_of, thread_of, top_of}
 use Rattle.pg_slice_rules.specs.Moments.{instr_in, thread_in}
 use Rattle.pg_slice_rules.specs.Rules as rules
 use Rattle.pg_slice_rules.specs.Rules.{Condition, Need, all_of, asks_pins, has_region, kind_in, need_blames, need_conditions, region_needs_in, registers_before}
-use Rattle.pg_slice_rules.specs.Shadows.{Shadow}
+use Rattle.pg_slice_rules.specs.SymbolicValues.{Symbolic}
 use Rattle.pg_slice_checks.specs.Asks.{Adds, AreNamed, all_hold, all_met}
 use Rattle.pg_slice_checks.specs.declared.asked.Asked.{Asked}
 use Rattle.pg_slice_checks.proofs.OneNeedMore.{adds_then}
@@ -35,38 +35,38 @@ use Rattle.pg_slice_replay.specs.declared.run.ReferenceRun.{ReferenceRun}
 use Rattle.pg_slice_replay.specs.Kept.{landmark_at}
 use Rattle.pg_slice_replay.specs.Landmarks.{Landmark}
 use Rattle.pg_slice_memory.specs.Changes as bytes
-use Rattle.pg_slice_memory.proofs.ByteNodes.{shadows_kept}
-use Rattle.pg_slice_registers.specs.Sourced.{AreCalls, AreSources, CallList, calls_by, registers_by, top_sources}
+use Rattle.pg_slice_memory.proofs.ByteNodes.{symbolics_kept}
+use Rattle.pg_slice_registers.specs.SymbolicRegisterNodes.{AreCalls, AreSymbolicNodes, CallList, calls_by, registers_by, top_symbolic_nodes}
 use Rattle.pg_slice_registers.specs.Threads.{AreThreads, threads_by}
 use Rattle.pg_slice_registers.proofs.ThreadCalls.{top_are, top_by}
 use Rattle.pg_slice_registers.proofs.KeptValues.{registers_kept}
-use Rattle.pg_slice_values.specs.declared.source.Source.{Source}
-use Rattle.pg_slice_values.specs.Sources.{Grew}
-use Rattle.pg_slice_passes.specs.declared.state.RunSources.{RunSources}
+use Rattle.pg_slice_values.specs.declared.symbolic_node.SymbolicNode.{SymbolicNode}
+use Rattle.pg_slice_values.specs.SymbolicNodes.{Grew}
+use Rattle.pg_slice_passes.specs.declared.state.SymbolicRun.{SymbolicRun}
 use Rattle.pg_slice_passes.specs.Along.{needs_at, own_asks}
 use Rattle.pg_slice_passes.specs.Passes.{IsAt, fixed_by}
-use Rattle.pg_slice_passes.specs.State.{AreKept, Knows, extents_of, sources_in}
+use Rattle.pg_slice_passes.specs.State.{AreKept, Knows, extents_of, symbolic_nodes_in}
 
 -- ---- the registers of a step's thread
 
 top_known : (ns : NodeList) (ts : List CallList) (extents : List (List Extent)) (t : ℕ)
-    → top_of (slice_index_or (threads_by ns ts extents) t no_thread).calls ≡ registers_by ns (top_sources (slice_index_or ts t []))
+    → top_of (slice_index_or (threads_by ns ts extents) t no_thread).calls ≡ registers_by ns (top_symbolic_nodes (slice_index_or ts t []))
 top_known ns [] extents t = refl
 top_known ns (c ∷ ts) [] zero = sym (top_by ns c)
 top_known ns (c ∷ ts) [] (suc t) = top_known ns ts [] t
 top_known ns (c ∷ ts) (e ∷ extents) zero = sym (top_by ns c)
 top_known ns (c ∷ ts) (e ∷ extents) (suc t) = top_known ns ts extents t
 
-pub registers_at : (R : Reference) (d : Taken) (p : NumberedProgram) (ns : NodeList) (s : RunSources) (r : ReferenceRun) (n : ℕ) (step : Step) (i : Instr) (x : Seen)
+pub registers_at : (R : Reference) (d : Taken) (p : NumberedProgram) (ns : NodeList) (s : SymbolicRun) (r : ReferenceRun) (n : ℕ) (step : Step) (i : Instr) (x : Seen)
     → IsAt R d p ns s r n step i x →
-    registers_before x ≡ registers_by ns (sources_in s step.thread.0)
+    registers_before x ≡ registers_by ns (symbolic_nodes_in s step.thread.0)
 registers_at R d p ns s r n step i x a =
     ap (λ ts. top_of (slice_index_or ts (thread_in x.moment) no_thread).calls) a.before.threads
     ∙ top_known ns s.threads.items (extents_of x.before) (thread_in x.moment)
-    ∙ ap (λ (y : Step). registers_by ns (sources_in s y.thread.0)) a.did
+    ∙ ap (λ (y : Step). registers_by ns (symbolic_nodes_in s y.thread.0)) a.did
 
-pub bytes_at : (R : Reference) (d : Taken) (p : NumberedProgram) (ns : NodeList) (s : RunSources) (r : ReferenceRun) (n : ℕ) (step : Step) (i : Instr) (x : Seen) → IsAt R d p ns s r n step i x →
-    x.before.bytes ≡ bytes.shadows_of p ns s.memory
+pub bytes_at : (R : Reference) (d : Taken) (p : NumberedProgram) (ns : NodeList) (s : SymbolicRun) (r : ReferenceRun) (n : ℕ) (step : Step) (i : Instr) (x : Seen) → IsAt R d p ns s r n step i x →
+    x.before.bytes ≡ bytes.symbolics_of p ns s.memory
 bytes_at R d p ns s r n step i x a = fun_ext (λ b. a.before.bytes b)
 
 calls_at : (n : ℕ) (ts : List CallList) (t : ℕ) → AreThreads n ts → AreCalls n (slice_index_or ts t [])
@@ -74,14 +74,14 @@ calls_at n [] t a = tt
 calls_at n (c ∷ ts) zero a = a.0
 calls_at n (c ∷ ts) (suc t) a = calls_at n ts t a.1
 
-pub sources_at : (n : ℕ) (s : RunSources) (t : ℕ) → AreKept n s → AreSources n (sources_in s t)
-sources_at n s t k = top_are n (slice_index_or s.threads.items t []) (calls_at n s.threads.items t k.threads)
+pub symbolic_nodes_at : (n : ℕ) (s : SymbolicRun) (t : ℕ) → AreKept n s → AreSymbolicNodes n (symbolic_nodes_in s t)
+symbolic_nodes_at n s t k = top_are n (slice_index_or s.threads.items t []) (calls_at n s.threads.items t k.threads)
 
 -- ---- what a live step asks
 
 module _ (p : NumberedProgram) (d : Taken) (x : Seen) (i : Instr) where
-  abbrev operands : List Shadow
-  operands = operand_shadows p (registers_before x) i.op
+  abbrev operands : List Symbolic
+  operands = operand_symbolics p (registers_before x) i.op
 
   event_is : (e : Event) (kind : TurnKind) → rules.event_needs p x i e kind ≡ steps.event_needs operands i.op e kind
   event_is e turns.Start = refl
@@ -105,7 +105,7 @@ module _ (R : Reference) (d : Taken) (x : Seen) where
   behind = region_needs_in R.program x x.region
 
   pub live_needs : (i : Instr) → x.live ≡ true → instr_in R.program x.moment ≡ Some i →
-      needs_at R d x ≡ step_needs (fixed_by d (kind_in x) x.number) (operand_shadows R.program (registers_before x) i.op) i.op (kind_in x) ++ region_needs_in R.program x x.region
+      needs_at R d x ≡ step_needs (fixed_by d (kind_in x) x.number) (operand_symbolics R.program (registers_before x) i.op) i.op (kind_in x) ++ region_needs_in R.program x x.region
   live_needs i l e =
       ap (λ (o : Option Instr). rules.value_needs_in R.program d x o ++ (rules.access_needs_in R.program x o ++ (if x.live then behind else []))) e
       ∙ ap (λ (b : Bool). (if b then rules.value_needs_by R.program d x i (kind_in x) else [])
@@ -179,48 +179,48 @@ module _ (R : Reference) (d : Taken) (x : Seen) where
 
 -- ---- a live step's needs by what is read
 
-module _ (R : Reference) (d : Taken) (p : NumberedProgram) (old : NodeList) (s : RunSources) (r : ReferenceRun) (n : ℕ) (step : Step) (i : Instr) (y : Seen) (a : IsAt R d p old s r n step i y) where
+module _ (R : Reference) (d : Taken) (p : NumberedProgram) (old : NodeList) (s : SymbolicRun) (r : ReferenceRun) (n : ℕ) (step : Step) (i : Instr) (y : Seen) (a : IsAt R d p old s r n step i y) where
   pub live_is : (b : Bool) → b ≡ is_live d.pinned (thread_of y.before step.thread.0).extents → y.live ≡ b
   live_is b h = a.live ∙ ap (λ (x : Step). is_live d.pinned (thread_of y.before x.thread.0).extents) a.did ∙ sym h
 
   pub region_told : IfSome (landmark_at r n) (λ (l : Landmark). y.region ≡ l.region)
   region_told = subst (λ (o : Option Landmark). IfSome o (λ (l : Landmark). y.region ≡ l.region)) (sym a.landmark) a.region
 
-  module _ (ns : NodeList) (grew : Grew old ns) (kept : AreKept (length old) s) (regs : List Source) (read : regs ≡ sources_in s step.thread.0) where
+  module _ (ns : NodeList) (grew : Grew old ns) (kept : AreKept (length old) s) (regs : List SymbolicNode) (read : regs ≡ symbolic_nodes_in s step.thread.0) where
     registers_now : registers_before y ≡ registers_by ns regs
     registers_now =
         registers_at R d p old s r n step i y a
-        ∙ sym (registers_kept old ns (sources_in s step.thread.0) grew (sources_at (length old) s step.thread.0 kept))
-        ∙ ap (λ (l : List Source). registers_by ns l) (sym read)
+        ∙ sym (registers_kept old ns (symbolic_nodes_in s step.thread.0) grew (symbolic_nodes_at (length old) s step.thread.0 kept))
+        ∙ ap (λ (l : List SymbolicNode). registers_by ns l) (sym read)
 
-    bytes_now : y.before.bytes ≡ bytes.shadows_of p ns s.memory
-    bytes_now = bytes_at R d p old s r n step i y a ∙ sym (shadows_kept p old ns s.memory grew kept.bytes)
+    bytes_now : y.before.bytes ≡ bytes.symbolics_of p ns s.memory
+    bytes_now = bytes_at R d p old s r n step i y a ∙ sym (symbolics_kept p old ns s.memory grew kept.bytes)
 
-    steps_asked : (fixed : Bool) → fixed ≡ fixed_by d step.kind n → step_needs fixed (operand_shadows p (registers_by ns regs) i.op) i.op step.kind
-        ≡ step_needs (fixed_by d (kind_in y) y.number) (operand_shadows R.program (registers_before y) i.op) i.op (kind_in y)
+    steps_asked : (fixed : Bool) → fixed ≡ fixed_by d step.kind n → step_needs fixed (operand_symbolics p (registers_by ns regs) i.op) i.op step.kind
+        ≡ step_needs (fixed_by d (kind_in y) y.number) (operand_symbolics R.program (registers_before y) i.op) i.op (kind_in y)
     steps_asked fixed h =
-        ap (λ (b : Bool). step_needs b (operand_shadows p (registers_by ns regs) i.op) i.op step.kind) h
-        ∙ ap (λ (k : ℕ). step_needs (fixed_by d step.kind k) (operand_shadows p (registers_by ns regs) i.op) i.op step.kind) (sym a.number)
-        ∙ ap (λ (x : Step). step_needs (fixed_by d x.kind y.number) (operand_shadows p (registers_by ns regs) i.op) i.op x.kind) (sym a.did)
-        ∙ ap (λ (l : List Shadow). step_needs (fixed_by d (kind_in y) y.number) (operand_shadows p l i.op) i.op (kind_in y)) (sym registers_now)
-        ∙ ap (λ (q : NumberedProgram). step_needs (fixed_by d (kind_in y) y.number) (operand_shadows q (registers_before y) i.op) i.op (kind_in y)) (sym a.program)
+        ap (λ (b : Bool). step_needs b (operand_symbolics p (registers_by ns regs) i.op) i.op step.kind) h
+        ∙ ap (λ (k : ℕ). step_needs (fixed_by d step.kind k) (operand_symbolics p (registers_by ns regs) i.op) i.op step.kind) (sym a.number)
+        ∙ ap (λ (x : Step). step_needs (fixed_by d x.kind y.number) (operand_symbolics p (registers_by ns regs) i.op) i.op x.kind) (sym a.did)
+        ∙ ap (λ (l : List Symbolic). step_needs (fixed_by d (kind_in y) y.number) (operand_symbolics p l i.op) i.op (kind_in y)) (sym registers_now)
+        ∙ ap (λ (q : NumberedProgram). step_needs (fixed_by d (kind_in y) y.number) (operand_symbolics q (registers_before y) i.op) i.op (kind_in y)) (sym a.program)
 
     pub live_adds : (fixed : Bool) → fixed ≡ fixed_by d step.kind n → y.live ≡ true → (mid between new : Asked)
-        → Adds ns (step_needs fixed (operand_shadows p (registers_by ns regs) i.op) i.op step.kind) mid between →
-        IfSome (landmark_at r n) (λ (l : Landmark). (x : Seen) → registers_before x ≡ registers_by ns regs → x.before.bytes ≡ bytes.shadows_of p ns s.memory
+        → Adds ns (step_needs fixed (operand_symbolics p (registers_by ns regs) i.op) i.op step.kind) mid between →
+        IfSome (landmark_at r n) (λ (l : Landmark). (x : Seen) → registers_before x ≡ registers_by ns regs → x.before.bytes ≡ bytes.symbolics_of p ns s.memory
         → Adds ns (region_needs_in p x l.region) between new) →
         Adds ns (needs_at R d y) mid new
     live_adds fixed h l mid between new first rest =
         subst (λ (needs : List Need). Adds ns needs mid new) (sym (live_needs R d y i l here))
-        (adds_then ns (step_needs (fixed_by d (kind_in y) y.number) (operand_shadows R.program (registers_before y) i.op) i.op (kind_in y)) (region_needs_in R.program y y.region) mid between new
+        (adds_then ns (step_needs (fixed_by d (kind_in y) y.number) (operand_symbolics R.program (registers_before y) i.op) i.op (kind_in y)) (region_needs_in R.program y y.region) mid between new
         (subst (λ (needs : List Need). Adds ns needs mid between) (steps_asked fixed h) first) second)
       where
         here : instr_in R.program y.moment ≡ Some i
         here = ap (λ (q : NumberedProgram). instr_in q y.moment) a.program ∙ a.instr
 
-        told : (x : Seen) → registers_before x ≡ registers_by ns regs → x.before.bytes ≡ bytes.shadows_of p ns s.memory
+        told : (x : Seen) → registers_before x ≡ registers_by ns regs → x.before.bytes ≡ bytes.symbolics_of p ns s.memory
             → Adds ns (region_needs_in p x (region_of p R.regions y.moment (instr_in p y.moment))) between new
-        told = subst (λ (o : Option Landmark). IfSome o (λ (l : Landmark). (x : Seen) → registers_before x ≡ registers_by ns regs → x.before.bytes ≡ bytes.shadows_of p ns s.memory
+        told = subst (λ (o : Option Landmark). IfSome o (λ (l : Landmark). (x : Seen) → registers_before x ≡ registers_by ns regs → x.before.bytes ≡ bytes.symbolics_of p ns s.memory
             → Adds ns (region_needs_in p x l.region) between new)) a.landmark rest
 
         second : Adds ns (region_needs_in R.program y y.region) between new
@@ -230,11 +230,11 @@ module _ (R : Reference) (d : Taken) (p : NumberedProgram) (old : NodeList) (s :
 
 -- ---- whatever is known, the checks name nodes that there are
 
-at_end : (t : ℕ) (x : ThreadShadow) → slice_index_or (replicate t no_thread ++ x ∷ []) t no_thread ≡ x
+at_end : (t : ℕ) (x : SymbolicThread) → slice_index_or (replicate t no_thread ++ x ∷ []) t no_thread ≡ x
 at_end zero x = refl
 at_end (suc t) x = at_end t x
 
-abbrev seen_by : Step → List Shadow → (ℕ → Shadow) → Seen
+abbrev seen_by : Step → List Symbolic → (ℕ → Symbolic) → Seen
 seen_by step rs f = record {
   number = 0;
   moment = record { did = record { did = step; low = 0; high = 0 }; calls = []; bytes = λ b. 0 };
@@ -243,28 +243,28 @@ seen_by step rs f = record {
   before = record { threads = replicate step.thread.0 no_thread ++ record { calls = rs ∷ []; extents = [] } ∷ []; bytes = f; words = [] };
 }
 
-pub named_by : (p : NumberedProgram) (ns : NodeList) (step : Step) (rs : List Shadow) (f : ℕ → Shadow) (o : Option Landmark) (between new : Asked) → is_some o ≡ true →
+pub named_by : (p : NumberedProgram) (ns : NodeList) (step : Step) (rs : List Symbolic) (f : ℕ → Symbolic) (o : Option Landmark) (between new : Asked) → is_some o ≡ true →
     IfSome o (λ (l : Landmark). (x : Seen) → registers_before x ≡ rs → x.before.bytes ≡ f → Adds ns (region_needs_in p x l.region) between new)
     → AreNamed (length ns) between.checks.items → AreNamed (length ns) new.checks.items
 named_by p ns step rs f None between new h a n = absurd (false≢true h)
 named_by p ns step rs f (Some l) between new h a n =
     let e = at_end step.thread.0 (record { calls = rs ∷ []; extents = [] }) in
-    let added = a (seen_by step rs f) (ap (λ (t : ThreadShadow). top_of t.calls) e) refl in
+    let added = a (seen_by step rs f) (ap (λ (t : SymbolicThread). top_of t.calls) e) refl in
     added.named n
 
 pub region_of_it : {A B : Type 0} (o : Option A) (a : A) (f : A → B) (P : B → Type 0) → o ≡ Some a → IfSome o (λ (x : A). P (f x)) → P (f a)
 region_of_it o a f P e h = subst (λ z. IfSome z (λ x. P (f x))) e h
 
 -- what a region asks, by what is read of it later
-abbrev pub RegionAsks : NumberedProgram → NodeList → List Source → bytes.Changes → Asked → Asked → Landmark → Type 0
-RegionAsks p after regs memory between new l = (ns : NodeList) (x : Seen) → Grew after ns → registers_before x ≡ registers_by ns regs → x.before.bytes ≡ bytes.shadows_of p ns memory
+abbrev pub RegionAsks : NumberedProgram → NodeList → List SymbolicNode → bytes.Changes → Asked → Asked → Landmark → Type 0
+RegionAsks p after regs memory between new l = (ns : NodeList) (x : Seen) → Grew after ns → registers_before x ≡ registers_by ns regs → x.before.bytes ≡ bytes.symbolics_of p ns memory
     → Adds ns (region_needs_in p x l.region) between new
 
-abbrev pub RegionAdds : NumberedProgram → NodeList → List Shadow → (ℕ → Shadow) → Asked → Asked → Landmark → Type 0
+abbrev pub RegionAdds : NumberedProgram → NodeList → List Symbolic → (ℕ → Symbolic) → Asked → Asked → Landmark → Type 0
 RegionAdds p ns rs f between new l = (x : Seen) → registers_before x ≡ rs → x.before.bytes ≡ f → Adds ns (region_needs_in p x l.region) between new
 
-pub told_at : (p : NumberedProgram) (after ns : NodeList) (regs : List Source) (memory : bytes.Changes) (between new : Asked) (o : Option Landmark) → Grew after ns
+pub told_at : (p : NumberedProgram) (after ns : NodeList) (regs : List SymbolicNode) (memory : bytes.Changes) (between new : Asked) (o : Option Landmark) → Grew after ns
     → IfSome o (RegionAsks p after regs memory between new) →
-    IfSome o (RegionAdds p ns (registers_by ns regs) (bytes.shadows_of p ns memory) between new)
+    IfSome o (RegionAdds p ns (registers_by ns regs) (bytes.symbolics_of p ns memory) between new)
 told_at p after ns regs memory between new None g h = tt
 told_at p after ns regs memory between new (Some l) g h = λ x e f. h ns x g e f

@@ -8,13 +8,13 @@ use Rattle.pg_run_trace.specs.declared.step.Event.{Event}
 use Rattle.pg_run_trace.specs.declared.turn.TurnKind.{TurnKind}
 use Rattle.pg_run_trace.specs.declared.turn.TurnKind.TheVariants as turns
 use Rattle.pg_slice_rules.specs.Extents.{Extent}
-use Rattle.pg_slice_rules.specs.Known.{ThreadShadow, fresh_registers, fresh_thread, no_thread, on_thread, threads_after, top_of, with_extents}
-use Rattle.pg_slice_rules.specs.Shadows.{Shadow}
+use Rattle.pg_slice_rules.specs.Known.{SymbolicThread, fresh_registers, fresh_thread, no_thread, on_thread, threads_after, top_of, with_extents}
+use Rattle.pg_slice_rules.specs.SymbolicValues.{Symbolic}
 use Rattle.pg_slice_decisions.specs.declared.open.OpenExtents.{OpenExtents}
 use Rattle.pg_slice_decisions.specs.Open.{AreOpen}
 use Rattle.pg_slice_decisions.specs.Places.{open_at}
-use Rattle.pg_slice_values.specs.Sources.{Grew}
-use Rattle.pg_slice_registers.specs.Sourced.{AreCalls, AreSources, CallList, calls_by, registers_by, top_sources}
+use Rattle.pg_slice_values.specs.SymbolicNodes.{Grew}
+use Rattle.pg_slice_registers.specs.SymbolicRegisterNodes.{AreCalls, AreSymbolicNodes, CallList, calls_by, registers_by, top_symbolic_nodes}
 use Rattle.pg_slice_registers.specs.Threads.{AreThreads, thread_by, threads_by}
 use Rattle.pg_slice_registers.proofs.ThreadCalls.{top_are, top_by}
 use Rattle.pg_slice_registers.proofs.ThreadsMade.{on_one, threads_kept}
@@ -34,20 +34,20 @@ set_past {A} (y ∷ xs) (suc t) x h = ap (λ (ys : List A). y ∷ ys) (set_past 
 
 -- ---- extents
 
-pub extents_length : (ks : List ThreadShadow) → length (extents_in ks) ≡ length ks
+pub extents_length : (ks : List SymbolicThread) → length (extents_in ks) ≡ length ks
 extents_length ks = length-map ks _
 
-pub extents_on : (f : List (List Shadow) → List (List Shadow)) (t : ℕ) (ks : List ThreadShadow) → extents_in (on_thread f t ks) ≡ extents_in ks
+pub extents_on : (f : List (List Symbolic) → List (List Symbolic)) (t : ℕ) (ks : List SymbolicThread) → extents_in (on_thread f t ks) ≡ extents_in ks
 extents_on f t [] = refl
 extents_on f zero (k ∷ ks) = refl
 extents_on f (suc t) (k ∷ ks) = ap (λ (es : List (List Extent)). k.extents ∷ es) (extents_on f t ks)
 
-pub extents_push : (ks : List ThreadShadow) (k : ThreadShadow) → extents_in (ks ++ k ∷ []) ≡ extents_in ks ++ k.extents ∷ []
+pub extents_push : (ks : List SymbolicThread) (k : SymbolicThread) → extents_in (ks ++ k ∷ []) ≡ extents_in ks ++ k.extents ∷ []
 extents_push [] k = refl
 extents_push (x ∷ ks) k = ap (λ (es : List (List Extent)). x.extents ∷ es) (extents_push ks k)
 
 -- the extents of a thread
-pub extents_at : (ks : List ThreadShadow) (t : ℕ) → (slice_index_or ks t no_thread).extents ≡ slice_index_or (extents_in ks) t []
+pub extents_at : (ks : List SymbolicThread) (t : ℕ) → (slice_index_or ks t no_thread).extents ≡ slice_index_or (extents_in ks) t []
 extents_at [] t = refl
 extents_at (k ∷ ks) zero = refl
 extents_at (k ∷ ks) (suc t) = extents_at ks t
@@ -58,17 +58,17 @@ none_more [] (suc t) = refl
 none_more (e ∷ es) zero = refl
 none_more (e ∷ es) (suc t) = none_more es t
 
-created_extents : (p : NumberedProgram) (e : Event) (kind : TurnKind) (ks : List ThreadShadow) (t : ℕ)
+created_extents : (p : NumberedProgram) (e : Event) (kind : TurnKind) (ks : List SymbolicThread) (t : ℕ)
     → slice_index_or (extents_in (threads_after p e kind ks)) t [] ≡ slice_index_or (extents_in ks) t []
 created_extents p e turns.Create ks t = ap (λ (es : List (List Extent)). slice_index_or es t []) (extents_push ks (fresh_thread p (slice_index e.operands 2))) ∙ none_more (extents_in ks) t
 created_extents p e kind ks t = refl
 
 -- a live step leaves those of each thread as they are
-pub same_extents : (f : List (List Shadow) → List (List Shadow)) (u : ℕ) (ks : List ThreadShadow) (t : ℕ)
+pub same_extents : (f : List (List Symbolic) → List (List Symbolic)) (u : ℕ) (ks : List SymbolicThread) (t : ℕ)
     → (slice_index_or (on_thread f u ks) t no_thread).extents ≡ (slice_index_or ks t no_thread).extents
 same_extents f u ks t = extents_at (on_thread f u ks) t ∙ ap (λ (es : List (List Extent)). slice_index_or es t []) (extents_on f u ks) ∙ sym (extents_at ks t)
 
-pub same_after : (p : NumberedProgram) (e : Event) (kind : TurnKind) (ks : List ThreadShadow) (t : ℕ)
+pub same_after : (p : NumberedProgram) (e : Event) (kind : TurnKind) (ks : List SymbolicThread) (t : ℕ)
     → (slice_index_or (threads_after p e kind ks) t no_thread).extents ≡ (slice_index_or ks t no_thread).extents
 same_after p e kind ks t = extents_at (threads_after p e kind ks) t ∙ created_extents p e kind ks t ∙ sym (extents_at ks t)
 
@@ -80,7 +80,7 @@ each_length pinned [] (o ∷ os) h = absurd h
 each_length pinned (e ∷ es) [] h = absurd h
 each_length pinned (e ∷ es) (o ∷ os) h = ap (λ (n : ℕ). suc n) (each_length pinned es os h.1)
 
-pub found_open : (pinned : ℕ → Bool) (ks : List ThreadShadow) (os : List OpenExtents) (t : ℕ) (d : OpenExtents) → t < length os → EachOpen pinned (extents_in ks) os →
+pub found_open : (pinned : ℕ → Bool) (ks : List SymbolicThread) (os : List OpenExtents) (t : ℕ) (d : OpenExtents) → t < length os → EachOpen pinned (extents_in ks) os →
     AreOpen pinned (slice_index_or ks t no_thread).extents (open_at (slice_index_or os t d))
 found_open pinned [] [] t d l h = absurd (omega arith)
 found_open pinned [] (x ∷ os) t d l h = absurd h
@@ -88,7 +88,7 @@ found_open pinned (k ∷ ks) [] t d l h = absurd h
 found_open pinned (k ∷ ks) (x ∷ os) zero d l h = h.0
 found_open pinned (k ∷ ks) (x ∷ os) (suc t) d l h = found_open pinned ks os t d (omega arith) h.1
 
-pub no_open : (pinned : ℕ → Bool) (ks : List ThreadShadow) (os : List OpenExtents) (t : ℕ) → EachOpen pinned (extents_in ks) os → length os ≤ t
+pub no_open : (pinned : ℕ → Bool) (ks : List SymbolicThread) (os : List OpenExtents) (t : ℕ) → EachOpen pinned (extents_in ks) os → length os ≤ t
     → (slice_index_or ks t no_thread).extents ≡ []
 no_open pinned [] os t h l = refl
 no_open pinned (k ∷ ks) [] t h l = absurd h
@@ -103,7 +103,7 @@ open_push pinned (e ∷ es) [] o h a = absurd h
 open_push pinned (e ∷ es) (x ∷ os) o h a = (h.0, open_push pinned es os o h.1 a)
 
 -- those of one thread change
-pub opens_change : (pinned : ℕ → Bool) (ks : List ThreadShadow) (os : List OpenExtents) (t : ℕ) (es : List Extent) (o : OpenExtents) → t < length os → EachOpen pinned (extents_in ks) os
+pub opens_change : (pinned : ℕ → Bool) (ks : List SymbolicThread) (os : List OpenExtents) (t : ℕ) (es : List Extent) (o : OpenExtents) → t < length os → EachOpen pinned (extents_in ks) os
     → AreOpen pinned es (open_at o) →
     EachOpen pinned (extents_in (with_extents t es ks)) (slice_set os t o)
 opens_change pinned [] [] t es o l h a = absurd (omega arith)
@@ -112,16 +112,16 @@ opens_change pinned (k ∷ ks) [] t es o l h a = absurd h
 opens_change pinned (k ∷ ks) (x ∷ os) zero es o l h a = (a, h.1)
 opens_change pinned (k ∷ ks) (x ∷ os) (suc t) es o l h a = (h.0, opens_change pinned ks os t es o (omega arith) h.1 a)
 
-pub opens_past : (pinned : ℕ → Bool) (ks : List ThreadShadow) (os : List OpenExtents) (t : ℕ) (es : List Extent) → length os ≤ t → EachOpen pinned (extents_in ks) os →
+pub opens_past : (pinned : ℕ → Bool) (ks : List SymbolicThread) (os : List OpenExtents) (t : ℕ) (es : List Extent) → length os ≤ t → EachOpen pinned (extents_in ks) os →
     EachOpen pinned (extents_in (with_extents t es ks)) os
 opens_past pinned ks os t es l h =
     let n = each_length pinned (extents_in ks) os h in
     let m = extents_length ks in
     let e : with_extents t es ks ≡ ks = set_past ks t _ (omega (arith, n, m, l)) in
-    subst (λ (xs : List ThreadShadow). EachOpen pinned (extents_in xs) os) (sym e) h
+    subst (λ (xs : List SymbolicThread). EachOpen pinned (extents_in xs) os) (sym e) h
 
 -- what is known of the calls stays
-pub extents_change : (ns : NodeList) (calls : List CallList) (t : ℕ) (es : List Extent) (ks : List ThreadShadow) → ks ≡ threads_by ns calls (extents_in ks) →
+pub extents_change : (ns : NodeList) (calls : List CallList) (t : ℕ) (es : List Extent) (ks : List SymbolicThread) → ks ≡ threads_by ns calls (extents_in ks) →
     with_extents t es ks ≡ threads_by ns calls (extents_in (with_extents t es ks))
 extents_change ns [] t es [] h = refl
 extents_change ns (c ∷ calls) t es [] h = absurd cc
@@ -129,15 +129,15 @@ extents_change ns [] t es (k ∷ ks) h = absurd cc
 extents_change ns (c ∷ calls) zero es (k ∷ ks) h =
     let a : k ≡ thread_by ns c k.extents = cc in
     let b : ks ≡ threads_by ns calls (extents_in ks) = cc in
-    ap (λ (x : ThreadShadow). let s : ThreadShadow = record { calls = x.calls; extents = es } in s ∷ ks) a ∙ ap (λ (xs : List ThreadShadow). thread_by ns c es ∷ xs) b
+    ap (λ (x : SymbolicThread). let s : SymbolicThread = record { calls = x.calls; extents = es } in s ∷ ks) a ∙ ap (λ (xs : List SymbolicThread). thread_by ns c es ∷ xs) b
 extents_change ns (c ∷ calls) (suc t) es (k ∷ ks) h =
     let a : k ≡ thread_by ns c k.extents = cc in
     let b : ks ≡ threads_by ns calls (extents_in ks) = cc in
-    ap (λ (x : ThreadShadow). x ∷ with_extents t es ks) a ∙ ap (λ (xs : List ThreadShadow). thread_by ns c k.extents ∷ xs) (extents_change ns calls t es ks b)
+    ap (λ (x : SymbolicThread). x ∷ with_extents t es ks) a ∙ ap (λ (xs : List SymbolicThread). thread_by ns c k.extents ∷ xs) (extents_change ns calls t es ks b)
 
 -- ---- while nodes are added
 
-pub threads_more : (old new : NodeList) (pinned : ℕ → Bool) (calls : List CallList) (opens : List OpenExtents) (ks : List ThreadShadow) → Grew old new → AreThreads (length old) calls →
+pub threads_more : (old new : NodeList) (pinned : ℕ → Bool) (calls : List CallList) (opens : List OpenExtents) (ks : List SymbolicThread) → Grew old new → AreThreads (length old) calls →
     KnowsThreads old pinned calls opens ks → KnowsThreads new pinned calls opens ks
 threads_more old new pinned calls opens ks g a k = record { calls = k.calls ∙ sym (threads_kept old new calls (extents_in ks) g a); as_many = k.as_many; extents = k.extents }
 
@@ -153,31 +153,31 @@ set_threads n [] t c a h = tt
 set_threads n (x ∷ calls) zero c a h = (h, a.1)
 set_threads n (x ∷ calls) (suc t) c a h = (a.0, set_threads n calls t c a.1 h)
 
-pub registers_are : (n : ℕ) (calls : List CallList) (t : ℕ) → AreThreads n calls → AreSources n (top_sources (slice_index_or calls t []))
+pub registers_are : (n : ℕ) (calls : List CallList) (t : ℕ) → AreThreads n calls → AreSymbolicNodes n (top_symbolic_nodes (slice_index_or calls t []))
 registers_are n calls t a = top_are n (slice_index_or calls t []) (calls_at n calls t a)
 
-pub registers_known : (ns : NodeList) (calls : List CallList) (t : ℕ) (ks : List ThreadShadow) → ks ≡ threads_by ns calls (extents_in ks) →
-    registers_by ns (top_sources (slice_index_or calls t [])) ≡ top_of (slice_index_or ks t no_thread).calls
+pub registers_known : (ns : NodeList) (calls : List CallList) (t : ℕ) (ks : List SymbolicThread) → ks ≡ threads_by ns calls (extents_in ks) →
+    registers_by ns (top_symbolic_nodes (slice_index_or calls t [])) ≡ top_of (slice_index_or ks t no_thread).calls
 registers_known ns [] t [] h = refl
 registers_known ns (c ∷ calls) t [] h = absurd cc
 registers_known ns [] t (k ∷ ks) h = absurd cc
 registers_known ns (c ∷ calls) zero (k ∷ ks) h =
     let a : k ≡ thread_by ns c k.extents = cc in
-    top_by ns c ∙ ap (λ (x : ThreadShadow). top_of x.calls) (sym a)
+    top_by ns c ∙ ap (λ (x : SymbolicThread). top_of x.calls) (sym a)
 registers_known ns (c ∷ calls) (suc t) (k ∷ ks) h =
     let b : ks ≡ threads_by ns calls (extents_in ks) = cc in
     registers_known ns calls t ks b
 
 -- they change
-pub one_changes : (old new : NodeList) (pinned : ℕ → Bool) (f : List (List Shadow) → List (List Shadow)) (t : ℕ) (calls : List CallList) (after : CallList) (opens : List OpenExtents)
-    (ks : List ThreadShadow) →
+pub one_changes : (old new : NodeList) (pinned : ℕ → Bool) (f : List (List Symbolic) → List (List Symbolic)) (t : ℕ) (calls : List CallList) (after : CallList) (opens : List OpenExtents)
+    (ks : List SymbolicThread) →
     Grew old new → AreThreads (length old) calls → t < length calls → calls_by new after ≡ f (calls_by old (slice_index_or calls t [])) →
     KnowsThreads old pinned calls opens ks → KnowsThreads new pinned (slice_set calls t after) opens (on_thread f t ks)
 one_changes old new pinned f t calls after opens ks g a h e k =
     let es = extents_in ks in
     let n : length es ≡ length calls = extents_length ks ∙ k.as_many in
     record {
-      calls = ap (λ (xs : List ThreadShadow). on_thread f t xs) k.calls ∙ sym (on_one old new f t calls after es g a n h e)
+      calls = ap (λ (xs : List SymbolicThread). on_thread f t xs) k.calls ∙ sym (on_one old new f t calls after es g a n h e)
           ∙ ap (λ (xs : List (List Extent)). threads_by new (slice_set calls t after) xs) (sym (extents_on f t ks));
       as_many = set_length ks t _ ∙ k.as_many ∙ sym (set_length calls t after);
       extents = subst (λ (xs : List (List Extent)). EachOpen pinned xs opens) (sym (extents_on f t ks)) k.extents;
@@ -190,7 +190,7 @@ by_length ns [] es = refl
 by_length ns (c ∷ calls) [] = ap (λ (n : ℕ). suc n) (by_length ns calls [])
 by_length ns (c ∷ calls) (e ∷ es) = ap (λ (n : ℕ). suc n) (by_length ns calls es)
 
-pub created : (old new : NodeList) (pinned : ℕ → Bool) (p : NumberedProgram) (e : Event) (calls after : List CallList) (opens : List OpenExtents) (o : OpenExtents) (ks : List ThreadShadow)
+pub created : (old new : NodeList) (pinned : ℕ → Bool) (p : NumberedProgram) (e : Event) (calls after : List CallList) (opens : List OpenExtents) (o : OpenExtents) (ks : List SymbolicThread)
     → e.kind ≡ turns.Create →
     ((extents : List (List Extent)) → length extents ≡ length calls → threads_by new after (extents ++ [] ∷ []) ≡ threads_after p e e.kind (threads_by old calls extents)) →
     AreOpen pinned [] (open_at o) → KnowsThreads old pinned calls opens ks → KnowsThreads new pinned after (opens ++ o ∷ []) (threads_after p e e.kind ks)
@@ -199,15 +199,15 @@ created old new pinned p e calls after opens o ks h made a k =
     let fresh = fresh_thread p (slice_index e.operands 2) in
     let n : length es ≡ length calls = extents_length ks ∙ k.as_many in
     let is : threads_after p e e.kind ks ≡ ks ++ fresh ∷ [] = ap (λ (kind : TurnKind). threads_after p e kind ks) h in
-    let grown : extents_in (threads_after p e e.kind ks) ≡ es ++ [] ∷ [] = ap (λ (xs : List ThreadShadow). extents_in xs) is ∙ extents_push ks fresh in
-    let same : threads_after p e e.kind ks ≡ threads_by new after (es ++ [] ∷ []) = ap (λ (xs : List ThreadShadow). threads_after p e e.kind xs) k.calls ∙ sym (made es n) in
+    let grown : extents_in (threads_after p e e.kind ks) ≡ es ++ [] ∷ [] = ap (λ (xs : List SymbolicThread). extents_in xs) is ∙ extents_push ks fresh in
+    let same : threads_after p e e.kind ks ≡ threads_by new after (es ++ [] ∷ []) = ap (λ (xs : List SymbolicThread). threads_after p e e.kind xs) k.calls ∙ sym (made es n) in
     record {
       calls = same ∙ ap (λ (xs : List (List Extent)). threads_by new after xs) (sym grown);
-      as_many = ap (λ (xs : List ThreadShadow). length xs) same ∙ by_length new after (es ++ [] ∷ []);
+      as_many = ap (λ (xs : List SymbolicThread). length xs) same ∙ by_length new after (es ++ [] ∷ []);
       extents = subst (λ (xs : List (List Extent)). EachOpen pinned xs (opens ++ o ∷ [])) (sym grown) (open_push pinned es opens o k.extents a);
     }
 
-pub none_created : (p : NumberedProgram) (e : Event) (kind : TurnKind) (ks : List ThreadShadow) → (kind ≡ turns.Create → ⊥) → threads_after p e kind ks ≡ ks
+pub none_created : (p : NumberedProgram) (e : Event) (kind : TurnKind) (ks : List SymbolicThread) → (kind ≡ turns.Create → ⊥) → threads_after p e kind ks ≡ ks
 none_created p e turns.Create ks h = absurd (h refl)
 none_created p e kind ks h = refl
 
@@ -216,7 +216,7 @@ pub first_known : (ns : NodeList) (pinned : ℕ → Bool) (p : NumberedProgram) 
     → EachOpen pinned ([] ∷ []) opens →
     KnowsThreads ns pinned (main ∷ []) opens (fresh_thread p p.main ∷ [])
 first_known ns pinned p main opens e h = record {
-  calls = ap (λ (cs : List (List Shadow)). let s : ThreadShadow = record { calls = cs; extents = [] } in s ∷ []) (sym e);
+  calls = ap (λ (cs : List (List Symbolic)). let s : SymbolicThread = record { calls = cs; extents = [] } in s ∷ []) (sym e);
   as_many = refl;
   extents = h;
 }

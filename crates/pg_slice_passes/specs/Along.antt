@@ -3,7 +3,7 @@ use Rattle.std.specs.Prelude.{ℕ, List, ◌++◌, take}
 use Rattle.pg_slice_rules.specs.declared.decision.Decision.{Decision}
 use Rattle.pg_slice_rules.specs.Closed.{conditions_at}
 use Rattle.pg_slice_rules.specs.Extents.{is_live}
-use Rattle.pg_slice_rules.specs.Known.{Reference, RunShadow, Seen, Taken, region_of, seen_in, thread_of}
+use Rattle.pg_slice_rules.specs.Known.{Reference, SymbolicState, Seen, Taken, region_of, seen_in, thread_of}
 use Rattle.pg_slice_rules.specs.Moments.{Moment, instr_in, thread_in}
 use Rattle.pg_slice_rules.specs.Rules.{Condition, Need, all_of, asks_pins, bounds_needs, need_blames, value_needs}
 
@@ -11,7 +11,7 @@ abbrev pub first_steps : Reference → Taken → ℕ → List Seen
 first_steps R d n = take n (seen_in R d)
 
 -- step n, with what is known before it
-abbrev pub step_from : Reference → Taken → ℕ → RunShadow → Moment → Seen
+abbrev pub step_from : Reference → Taken → ℕ → SymbolicState → Moment → Seen
 step_from R d n s m = record {
   number = n;
   moment = m;

@@ -18,14 +18,14 @@ use Rattle.pg_slice_replay.specs.declared.run.ReferenceRun.{ReferenceRun}
 use Rattle.pg_slice_replay.specs.Kept.{landmark_at}
 use Rattle.pg_slice_replay.specs.Landmarks.{landmark_of}
 use Rattle.pg_slice_passes.specs.declared.pass.Gathered.{Gathered}
-use Rattle.pg_slice_passes.specs.declared.state.RunSources.{RunSources}
+use Rattle.pg_slice_passes.specs.declared.state.SymbolicRun.{SymbolicRun}
 use Rattle.pg_law_demands.specs.Along.{known_at}
 use Rattle.pg_slice_passes.specs.Along.{asked_before, conditions_before, first_steps}
 use Rattle.pg_slice_passes.specs.Footprints.{owners_of}
 use Rattle.pg_slice_passes.specs.State.{Knows}
 
 -- x is step n of the run under these decisions, of this instruction, before which this is kept
-pub record IsAt (R : Reference) (d : Taken) (p : NumberedProgram) (ns : NodeList) (s : RunSources) (r : ReferenceRun) (n : ℕ) (step : Step) (i : Instr) (x : Seen) : Type 0 where
+pub record IsAt (R : Reference) (d : Taken) (p : NumberedProgram) (ns : NodeList) (s : SymbolicRun) (r : ReferenceRun) (n : ℕ) (step : Step) (i : Instr) (x : Seen) : Type 0 where
   pub program : R.program ≡ p
   pub number : x.number ≡ n
   pub did : x.moment.did.did ≡ step
@@ -54,7 +54,7 @@ is_library_call o = false
 
 -- by these nodes, over the first n steps
 pub record HasPassed (R : Reference) (d : Taken) (n : ℕ) (ns : NodeList) (g : Gathered) : Type 0 where
-  pub known : Knows R.program ns d.pinned g.sources (known_at R d n)
+  pub known : Knows R.program ns d.pinned g.symbolic_nodes (known_at R d n)
   pub missing : g.asked.missing.items ≡ asked_before R d n
   pub checks : (input : List ℤ) → all_hold ns g.asked.checks.items input ≡ all_met (conditions_before R d n) input
   pub named : AreNamed (length ns) g.asked.checks.items

@@ -3,15 +3,15 @@
 ghost use Rattle.std.specs.Prelude.{◌≡◌, ◌+◌, ◌≤◌, ℕ, length};
 ghost use Rattle.pg_precondition.specs.Nodes.{NodeList};
 ghost use Rattle.pg_slice_rules.specs.Freeable.{bounds_of};
-ghost use Rattle.pg_slice_rules.specs.Shadows.{byte_in};
-ghost use Rattle.pg_slice_values.specs.Sources.{IsSource, shadow_by};
-ghost use Rattle.pg_slice_memory.specs.Sources.{IsHeld, held_shadow};
+ghost use Rattle.pg_slice_rules.specs.SymbolicValues.{byte_in};
+ghost use Rattle.pg_slice_values.specs.SymbolicNodes.{IsSymbolicNode, symbolic_by};
+ghost use Rattle.pg_slice_memory.specs.SymbolicNodes.{IsHeld, held_symbolic};
 ghost use Rattle.pg_stamps.specs.declared.stamps.TheConstants.{PLACE_COUNT};
 
 use pg_num::layout::GRANULE_BYTES;
 use pg_num::unpack;
 use pg_slice_memory::Held;
-use pg_slice_values::Source;
+use pg_slice_values::SymbolicNode;
 
 /// The bytes within bounds: the first one, and how many there are.
 #[derive(Clone, Copy)]
@@ -34,26 +34,26 @@ pub fn bounds(word: u64) -> ByteBounds
 }
 
 /// A value as memory keeps it, which knows no bounds of a number that isn't known.
-pub(crate) fn held(s: Source) -> Held
-    ensures is { (n : ℕ) → IsSource n s → IsHeld n result }
-    ensures bytes { (ns : NodeList) (k : ℕ) → byte_in k (held_shadow ns result) ≡ byte_in k (shadow_by ns s) }
+pub(crate) fn held(s: SymbolicNode) -> Held
+    ensures is { (n : ℕ) → IsSymbolicNode n s → IsHeld n result }
+    ensures bytes { (ns : NodeList) (k : ℕ) → byte_in k (held_symbolic ns result) ≡ byte_in k (symbolic_by ns s) }
 {
     match s {
-        Source::Known { value, .. } => Held::Known(value),
-        Source::Bounded(_, by) | Source::Unknown(by) => Held::Unknown(by),
+        SymbolicNode::Known { value, .. } => Held::Known(value),
+        SymbolicNode::Bounded(_, by) | SymbolicNode::Unknown(by) => Held::Unknown(by),
     }
 }
 
 /// A value that was loaded.
-pub(crate) fn loaded(held: Held) -> Source
-    ensures is { (n : ℕ) → IsHeld n held → IsSource n result }
-    ensures value { (ns : NodeList) → shadow_by ns result ≡ held_shadow ns held }
+pub(crate) fn loaded(held: Held) -> SymbolicNode
+    ensures is { (n : ℕ) → IsHeld n held → IsSymbolicNode n result }
+    ensures value { (ns : NodeList) → symbolic_by ns result ≡ held_symbolic ns held }
 {
     match held {
-        Held::Known(node) => Source::Known {
+        Held::Known(node) => SymbolicNode::Known {
             value: node,
             bounds: node,
         },
-        Held::Unknown(by) => Source::Unknown(by),
+        Held::Unknown(by) => SymbolicNode::Unknown(by),
     }
 }

@@ -20,7 +20,7 @@ ghost use Rattle.std.specs.Prelude.{Some, map, slice_get};
 ghost use Rattle.pg_slice_conflicts.specs.declared.footprint.Footprint.{Footprint as AFootprint};
 
 use crate::byte_bounds::bounds;
-use crate::state::RunSources;
+use crate::state::SymbolicRun;
 use pg_run_trace::{Step, StepKind};
 use pg_schedule::Interval;
 use pg_slice_conflicts::Footprint;
@@ -189,7 +189,7 @@ impl Footprints {
 /// The footprints of a step, where it is live.
 pub(crate) fn add_footprints(
     footprints: &mut Footprints,
-    s: &RunSources,
+    s: &SymbolicRun,
     at: &TimedStep,
 ) -> Result<(), AllocError>
     requires number { at.now.n < step_count at.now.r.now }

@@ -21,4 +21,4 @@ pub use given::GivenRun;
 pub use needs::is_malloc;
 pub use pass::{Passed, pass_over};
 pub use slice::{Slice, slice_by_passes, sliced, take_new};
-pub use state::RunSources;
+pub use state::SymbolicRun;

@@ -6,21 +6,21 @@ ghost use Rattle.pg_run_trace.specs.declared.step.StepKind.{StepKind as AKind};
 ghost use Rattle.pg_run_trace.specs.declared.step.StepKind.TheVariants as kinds;
 ghost use Rattle.pg_run_trace.specs.declared.turn.TurnKind.TheVariants.{Create};
 ghost use Rattle.pg_slice_rules.specs.Freeable.{FreeRegion, Regions};
-ghost use Rattle.pg_slice_rules.specs.Known.{RunShadow, Taken, bytes_by, function_in, live_after, live_by, on_thread, region_of, registers_of, result_in, threads_after};
+ghost use Rattle.pg_slice_rules.specs.Known.{SymbolicState, Taken, bytes_by, function_in, live_after, live_by, on_thread, region_of, registers_of, result_in, threads_after};
 ghost use Rattle.pg_slice_rules.specs.Known as along;
 ghost use Rattle.pg_slice_rules.specs.Moments.{Moment, instr_in, thread_in};
 ghost use Rattle.pg_slice_decisions.specs.Steps.{taken_by};
 ghost use Rattle.pg_slice_replay.specs.Kept.{landmark_at, step_count};
 ghost use Rattle.pg_slice_replay.specs.Landmarks.{landmark_of};
 ghost use Rattle.pg_slice_values.specs.Forms.{CastFits};
-ghost use Rattle.pg_slice_values.specs.Sources.{Grew, IsSource, shadow_by};
+ghost use Rattle.pg_slice_values.specs.SymbolicNodes.{Grew, IsSymbolicNode, symbolic_by};
 ghost use Rattle.pg_slice_registers.specs.Events.{HasOperands};
 ghost use Rattle.pg_slice_registers.specs.Steps.{is_plain};
 ghost use Rattle.pg_slice_passes.specs.Given.{CanGo, FitsEvent, IsAccess, is_op};
 ghost use Rattle.pg_slice_passes.specs.State.{AreKept, Knows};
 
 use crate::memory::{forget_instance, load, store, word_of, write};
-use crate::state::RunSources;
+use crate::state::SymbolicRun;
 use crate::step::StepAt;
 use crate::threads::{after_access, after_event, after_op, thread_registers, with_created};
 use pg_ir::{Instr, Op, Program};
@@ -29,7 +29,7 @@ use pg_run_trace::{Access, Event, StepKind, TurnKind};
 use pg_slice_decisions::DecisionSet;
 use pg_slice_registers::{OpStep, words_after};
 use pg_slice_replay::ReferenceRun;
-use pg_slice_values::Source;
+use pg_slice_values::SymbolicNode;
 use std::alloc::AllocError;
 
 /// What is read of the run at a step that is neither an access nor an event.
@@ -57,7 +57,7 @@ fn is_passed_on(exact: bool, a: Access) -> bool
     exact || a.event
 }
 
-impl RunSources {
+impl SymbolicRun {
     /// A live load or store.
     fn live_access(
         &mut self,
@@ -72,10 +72,10 @@ impl RunSources {
         requires access { IsAccess x.now.op }
         requires some { 1 ≤ a.bytes }
         requires count { a.bytes ≤ 8 }
-        requires sources { AreKept (length nodes.old) self.old }
+        requires symbolic_nodes { AreKept (length nodes.old) self.old }
         ensures grew { Grew nodes.old nodes.new }
         ensures is { OnOk result (AreKept (length nodes.new) self.new) }
-        ensures value { (d : Taken) (m : Moment) (region : Option FreeRegion) (k : RunShadow) → d.exact n ≡ exact → thread_in m ≡ t → Knows p.now nodes.old d.pinned self.old k
+        ensures value { (d : Taken) (m : Moment) (region : Option FreeRegion) (k : SymbolicState) → d.exact n ≡ exact → thread_in m ≡ t → Knows p.now nodes.old d.pinned self.old k
             → OnOk result (Knows p.now nodes.new d.pinned self.new (live_by p.now d n m region x.now (kinds.Access a) k)) }
     {
         match &x.op {
@@ -100,10 +100,10 @@ impl RunSources {
 
     /// What a live event writes.
     fn event_bytes(&mut self, nodes: &mut Nodes, e: &Event) -> Result<(), AllocError>
-        requires sources { AreKept (length nodes.old) self.old }
+        requires symbolic_nodes { AreKept (length nodes.old) self.old }
         ensures grew { Grew nodes.old nodes.new }
         ensures is { OnOk result (AreKept (length nodes.new) self.new) }
-        ensures value { (p : NumberedProgram) (pinned : ℕ → Bool) (k : RunShadow) → Knows p nodes.old pinned self.old k
+        ensures value { (p : NumberedProgram) (pinned : ℕ → Bool) (k : SymbolicState) → Knows p nodes.old pinned self.old k
             → OnOk result (Knows p nodes.new pinned self.new (record k { bytes = bytes_by e.now e.now.write k.words k.bytes })) }
     {
         write(nodes, &mut self.memory, e, self.words.as_slice())
@@ -119,10 +119,10 @@ impl RunSources {
         kind: TurnKind,
     ) -> Result<(), AllocError>
         requires call { HasOperands kind x.now.op }
-        requires sources { AreKept (length nodes.old) self.old }
+        requires symbolic_nodes { AreKept (length nodes.old) self.old }
         ensures grew { Grew nodes.old nodes.new }
         ensures is { OnOk result (AreKept (length nodes.new) self.new) }
-        ensures value { (pinned : ℕ → Bool) (k : RunShadow) → Knows p.now nodes.old pinned self.old k
+        ensures value { (pinned : ℕ → Bool) (k : SymbolicState) → Knows p.now nodes.old pinned self.old k
             → OnOk result (Knows p.now nodes.new pinned self.new (record k { words = along.words_after p.now t kind (registers_of k t) x.now.op k.words })) }
     {
         words_after(
@@ -144,17 +144,17 @@ impl RunSources {
         t: usize,
         e: Event,
         function: u32,
-        argument: Source,
+        argument: SymbolicNode,
     ) -> Result<(), AllocError>
         requires call { HasOperands e.kind s.now.x.now.op }
         requires create { e.kind ≡ Create → slice_index e.operands 2 < length s.now.p.now.functions }
-        requires argument { IsSource (length nodes.old) argument }
-        requires sources { AreKept (length nodes.old) self.old }
+        requires argument { IsSymbolicNode (length nodes.old) argument }
+        requires symbolic_nodes { AreKept (length nodes.old) self.old }
         ensures grew { Grew nodes.old nodes.new }
         ensures is { OnOk result (AreKept (length nodes.new) self.new) }
-        ensures value { (m : Moment) (pinned : ℕ → Bool) (k : RunShadow) → function_in m.calls ≡ function → Knows s.now.p.now nodes.old pinned self.old k
+        ensures value { (m : Moment) (pinned : ℕ → Bool) (k : SymbolicState) → function_in m.calls ≡ function → Knows s.now.p.now nodes.old pinned self.old k
             → OnOk result (Knows s.now.p.now nodes.new pinned self.new
-            (record k { threads = threads_after s.now.p.now e e.kind (on_thread (along.after_event s.now.p.now m e e.kind (shadow_by nodes.old argument) s.now.x.now) t k.threads) })) }
+            (record k { threads = threads_after s.now.p.now e e.kind (on_thread (along.after_event s.now.p.now m e e.kind (symbolic_by nodes.old argument) s.now.x.now) t k.threads) })) }
     {
         after_event(nodes, s.p, s.x, t, e, function, argument, &mut self.threads)?;
         with_created(s.alloc, nodes, s.p, e, &mut self.threads, &mut self.extents)
@@ -171,10 +171,10 @@ impl RunSources {
     ) -> Result<(), AllocError>
         requires call { FitsEvent e.now s.now.x.now.op }
         requires create { e.now.kind ≡ Create → slice_index e.now.operands 2 < length s.now.p.now.functions }
-        requires sources { AreKept (length nodes.old) self.old }
+        requires symbolic_nodes { AreKept (length nodes.old) self.old }
         ensures grew { Grew nodes.old nodes.new }
         ensures is { OnOk result (AreKept (length nodes.new) self.new) }
-        ensures value { (d : Taken) (n : ℕ) (m : Moment) (region : Option FreeRegion) (k : RunShadow) → function_in m.calls ≡ function → thread_in m ≡ t
+        ensures value { (d : Taken) (n : ℕ) (m : Moment) (region : Option FreeRegion) (k : SymbolicState) → function_in m.calls ≡ function → thread_in m ≡ t
             → Knows s.now.p.now nodes.old d.pinned self.old k
             → OnOk result (Knows s.now.p.now nodes.new d.pinned self.new (live_by s.now.p.now d n m region s.now.x.now (kinds.Event e.now) k)) }
     {
@@ -196,10 +196,10 @@ impl RunSources {
         requires cast { CastFits s.now.x.now.op }
         requires number { s.now.n < step_count s.now.r.now }
         requires block { IfSome (landmark_at s.now.r.now s.now.n) (λ l. IfSome l.edge (λ b. b < length s.now.p.now.blocks)) }
-        requires sources { AreKept (length nodes.old) self.old }
+        requires symbolic_nodes { AreKept (length nodes.old) self.old }
         ensures grew { Grew nodes.old nodes.new }
         ensures is { OnOk result (AreKept (length nodes.new) self.new) }
-        ensures value { (m : Moment) (regions : Regions) (kind : AKind) (k : RunShadow) → landmark_at s.now.r.now s.now.n ≡ Some (landmark_of s.now.p.now regions m) → is_op kind ≡ true
+        ensures value { (m : Moment) (regions : Regions) (kind : AKind) (k : SymbolicState) → landmark_at s.now.r.now s.now.n ≡ Some (landmark_of s.now.p.now regions m) → is_op kind ≡ true
             → result_in kind ≡ word
             → m.did.did.kind ≡ kind → thread_in m ≡ t → instr_in s.now.p.now m ≡ Some s.now.x.now → Knows s.now.p.now nodes.old (taken_by s.now.d.now).pinned self.old k
             → OnOk result (Knows s.now.p.now nodes.new (taken_by s.now.d.now).pinned self.new
@@ -222,10 +222,10 @@ impl RunSources {
     /// A live step.
     pub(crate) fn live(&mut self, nodes: &mut Nodes, s: &StepAt) -> Result<(), AllocError>
         requires go { CanGo s.now.p.now s.now.x.now s.now.step.now s.now.r.now s.now.n }
-        requires sources { AreKept (length nodes.old) self.old }
+        requires symbolic_nodes { AreKept (length nodes.old) self.old }
         ensures grew { Grew nodes.old nodes.new }
         ensures is { OnOk result (AreKept (length nodes.new) self.new) }
-        ensures value { (m : Moment) (regions : Regions) (k : RunShadow) → landmark_at s.now.r.now s.now.n ≡ Some (landmark_of s.now.p.now regions m) → m.did.did ≡ s.now.step.now
+        ensures value { (m : Moment) (regions : Regions) (k : SymbolicState) → landmark_at s.now.r.now s.now.n ≡ Some (landmark_of s.now.p.now regions m) → m.did.did ≡ s.now.step.now
             → instr_in s.now.p.now m ≡ Some s.now.x.now
             → Knows s.now.p.now nodes.old (taken_by s.now.d.now).pinned self.old k
             → OnOk result (Knows s.now.p.now nodes.new (taken_by s.now.d.now).pinned self.new

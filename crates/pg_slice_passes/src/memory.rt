@@ -8,30 +8,30 @@ ghost use Rattle.pg_num.specs.declared.width.Width.{Width as AWidth};
 ghost use Rattle.pg_precondition.specs.Nodes.{NodeList};
 ghost use Rattle.pg_slice_rules.specs.declared.decision.Decision.TheVariants.{Pinned};
 ghost use Rattle.pg_slice_rules.specs.Freeable.{bounds_of};
-ghost use Rattle.pg_slice_rules.specs.Known.{bytes_by, bytes_freed, bytes_stored, forgotten_bytes, load_of, written_shadow};
-ghost use Rattle.pg_slice_rules.specs.Shadows as shadows;
+ghost use Rattle.pg_slice_rules.specs.Known.{bytes_by, bytes_freed, bytes_stored, forgotten_bytes, load_of, written_symbolic};
+ghost use Rattle.pg_slice_rules.specs.SymbolicValues as symbolics;
 ghost use Rattle.pg_slice_replay.specs.Kept.{landmark_at};
-ghost use Rattle.pg_slice_values.specs.Sources.{Grew, IsSource, shadow_by};
+ghost use Rattle.pg_slice_values.specs.SymbolicNodes.{Grew, IsSymbolicNode, symbolic_by};
 ghost use Rattle.pg_slice_memory.specs.Changes as bytes;
-ghost use Rattle.pg_slice_registers.specs.Sourced.{AreSources, registers_by};
+ghost use Rattle.pg_slice_registers.specs.SymbolicRegisterNodes.{AreSymbolicNodes, registers_by};
 
 use crate::byte_bounds::{bounds, held, loaded};
 use pg_ir::{Program, Value};
 use pg_num::Width;
 use pg_precondition::Nodes;
 use pg_run_trace::{Access, Event, TurnKind, Write};
-use pg_slice_memory::{ShadowMemory, place_of};
+use pg_slice_memory::{SymbolicMemory, place_of};
 use pg_slice_registers::OpStep;
 use pg_slice_replay::{FreeAccess, ReferenceRun};
 use pg_slice_rules::Decision;
-use pg_slice_values::{Source, constant, unset, value, within};
+use pg_slice_values::{SymbolicNode, constant, unset, value, within};
 use std::alloc::{AllocError, Global};
 
 /// The word of the main thread before the first step.
-pub(crate) fn first_words(alloc: Global, nodes: &mut Nodes) -> Result<Vec<Source>, AllocError>
+pub(crate) fn first_words(alloc: Global, nodes: &mut Nodes) -> Result<Vec<SymbolicNode>, AllocError>
     ensures grew { Grew nodes.old nodes.new }
-    ensures is { IfOk result (λ v. AreSources (length nodes.new) v.items) }
-    ensures value { IfOk result (λ v. registers_by nodes.new v.items ≡ shadows.always 0 ∷ []) }
+    ensures is { IfOk result (λ v. AreSymbolicNodes (length nodes.new) v.items) }
+    ensures value { IfOk result (λ v. registers_by nodes.new v.items ≡ symbolics.always 0 ∷ []) }
 {
     let zero = constant(nodes, 0)?;
     let mut words = Vec::new(alloc);
@@ -40,11 +40,15 @@ pub(crate) fn first_words(alloc: Global, nodes: &mut Nodes) -> Result<Vec<Source
 }
 
 /// The word of a thread; one that isn't there was never set.
-pub(crate) fn word_of(nodes: &mut Nodes, words: &[Source], t: usize) -> Result<Source, AllocError>
-    requires { AreSources (length nodes.old) words.now }
+pub(crate) fn word_of(
+    nodes: &mut Nodes,
+    words: &[SymbolicNode],
+    t: usize,
+) -> Result<SymbolicNode, AllocError>
+    requires { AreSymbolicNodes (length nodes.old) words.now }
     ensures grew { Grew nodes.old nodes.new }
-    ensures is { IfOk result (IsSource (length nodes.new)) }
-    ensures value { IfOk result (λ s. shadow_by nodes.new s ≡ slice_index_or (registers_by nodes.old words.now) t shadows.unset) }
+    ensures is { IfOk result (IsSymbolicNode (length nodes.new)) }
+    ensures value { IfOk result (λ s. symbolic_by nodes.new s ≡ slice_index_or (registers_by nodes.old words.now) t symbolics.unset) }
 {
     match words.get(t).copied() {
         Some(s) => Ok(s),
@@ -56,21 +60,21 @@ pub(crate) fn word_of(nodes: &mut Nodes, words: &[Source], t: usize) -> Result<S
 pub(crate) fn load(
     nodes: &mut Nodes,
     p: &Program,
-    memory: &ShadowMemory,
+    memory: &SymbolicMemory,
     width: Width,
     a: Access,
     n: usize,
     exact: bool,
-) -> Result<Source, AllocError>
+) -> Result<SymbolicNode, AllocError>
     requires some { 1 ≤ a.bytes }
     requires count { a.bytes ≤ 8 }
-    requires names { bytes.AreSources (length nodes.old) memory.now }
+    requires names { bytes.AreSymbolicNodes (length nodes.old) memory.now }
     ensures grew { Grew nodes.old nodes.new }
-    ensures is { IfOk result (IsSource (length nodes.new)) }
-    ensures value { IfOk result (λ s. shadow_by nodes.new s ≡ load_of exact n width a (bytes.shadows_of p.now nodes.old memory.now)) }
+    ensures is { IfOk result (IsSymbolicNode (length nodes.new)) }
+    ensures value { IfOk result (λ s. symbolic_by nodes.new s ≡ load_of exact n width a (bytes.symbolics_of p.now nodes.old memory.now)) }
 {
     if !exact {
-        return Ok(Source::Unknown(Decision::Exact(n)));
+        return Ok(SymbolicNode::Unknown(Decision::Exact(n)));
     }
     let number = memory.load(p, nodes, place_of(a.pointer), a.bytes)?;
     within(nodes, width, loaded(number))
@@ -80,20 +84,20 @@ pub(crate) fn load(
 pub(crate) fn store(
     nodes: &mut Nodes,
     p: &Program,
-    memory: &mut ShadowMemory,
+    memory: &mut SymbolicMemory,
     v: Value,
-    registers: &[Source],
+    registers: &[SymbolicNode],
     a: Access,
     n: usize,
     known: bool,
 ) -> Result<(), AllocError>
     requires count { a.bytes ≤ 8 }
-    requires registers { AreSources (length nodes.old) registers.now }
-    requires names { bytes.AreSources (length nodes.old) memory.old }
+    requires registers { AreSymbolicNodes (length nodes.old) registers.now }
+    requires names { bytes.AreSymbolicNodes (length nodes.old) memory.old }
     ensures grew { Grew nodes.old nodes.new }
-    ensures is { OnOk result (bytes.AreSources (length nodes.new) memory.new) }
-    ensures value { (w : AWidth) (at : AValue) (b : ℕ) → OnOk result (bytes.shadows_of p.now nodes.new memory.new b
-        ≡ bytes_stored p.now known n a (registers_by nodes.old registers.now) (Store w v at) (bytes.shadows_of p.now nodes.old memory.old) b) }
+    ensures is { OnOk result (bytes.AreSymbolicNodes (length nodes.new) memory.new) }
+    ensures value { (w : AWidth) (at : AValue) (b : ℕ) → OnOk result (bytes.symbolics_of p.now nodes.new memory.new b
+        ≡ bytes_stored p.now known n a (registers_by nodes.old registers.now) (Store w v at) (bytes.symbolics_of p.now nodes.old memory.old) b) }
 {
     if known {
         let s = value(nodes, p, v, registers)?;
@@ -105,11 +109,16 @@ pub(crate) fn store(
 }
 
 /// What an event writes: a create the number of its thread, a join the word of the joined one.
-fn written(nodes: &mut Nodes, e: &Event, w: Write, words: &[Source]) -> Result<Source, AllocError>
-    requires { AreSources (length nodes.old) words.now }
+fn written(
+    nodes: &mut Nodes,
+    e: &Event,
+    w: Write,
+    words: &[SymbolicNode],
+) -> Result<SymbolicNode, AllocError>
+    requires { AreSymbolicNodes (length nodes.old) words.now }
     ensures grew { Grew nodes.old nodes.new }
-    ensures is { IfOk result (IsSource (length nodes.new)) }
-    ensures value { IfOk result (λ s. shadow_by nodes.new s ≡ written_shadow e.now w e.now.kind (registers_by nodes.old words.now)) }
+    ensures is { IfOk result (IsSymbolicNode (length nodes.new)) }
+    ensures value { IfOk result (λ s. symbolic_by nodes.new s ≡ written_symbolic e.now w e.now.kind (registers_by nodes.old words.now)) }
 {
     match e.kind {
         TurnKind::Join => word_of(nodes, words, e.object as usize),
@@ -121,16 +130,16 @@ fn written(nodes: &mut Nodes, e: &Event, w: Write, words: &[Source]) -> Result<S
 #[tactic(auto, using(pg_slice_values::proofs::GrowingNodes::grew_none))]
 pub(crate) fn write(
     nodes: &mut Nodes,
-    memory: &mut ShadowMemory,
+    memory: &mut SymbolicMemory,
     e: &Event,
-    words: &[Source],
+    words: &[SymbolicNode],
 ) -> Result<(), AllocError>
-    requires words { AreSources (length nodes.old) words.now }
-    requires names { bytes.AreSources (length nodes.old) memory.old }
+    requires words { AreSymbolicNodes (length nodes.old) words.now }
+    requires names { bytes.AreSymbolicNodes (length nodes.old) memory.old }
     ensures grew { Grew nodes.old nodes.new }
-    ensures is { OnOk result (bytes.AreSources (length nodes.new) memory.new) }
-    ensures value { (p : NumberedProgram) (b : ℕ) → OnOk result (bytes.shadows_of p nodes.new memory.new b
-        ≡ bytes_by e.now e.now.write (registers_by nodes.old words.now) (bytes.shadows_of p nodes.old memory.old) b) }
+    ensures is { OnOk result (bytes.AreSymbolicNodes (length nodes.new) memory.new) }
+    ensures value { (p : NumberedProgram) (b : ℕ) → OnOk result (bytes.symbolics_of p nodes.new memory.new b
+        ≡ bytes_by e.now e.now.write (registers_by nodes.old words.now) (bytes.symbolics_of p nodes.old memory.old) b) }
 {
     match e.write {
         Some(w) => {
@@ -142,10 +151,14 @@ pub(crate) fn write(
 }
 
 /// Memory after an access of an instance's region: what lies within the bounds of a store isn't known, a load changes nothing.
-fn forget_access(memory: &mut ShadowMemory, access: FreeAccess, n: usize) -> Result<(), AllocError>
-    ensures is { OnOk result ((k : ℕ) → bytes.AreSources k memory.old → bytes.AreSources k memory.new) }
-    ensures value { (p : NumberedProgram) (ns : NodeList) → OnOk result (bytes.shadows_of p ns memory.new
-        ≡ (if access.writes then shadows.spoiled (bounds_of access.last) (Pinned n) (bytes.shadows_of p ns memory.old) else bytes.shadows_of p ns memory.old)) }
+fn forget_access(
+    memory: &mut SymbolicMemory,
+    access: FreeAccess,
+    n: usize,
+) -> Result<(), AllocError>
+    ensures is { OnOk result ((k : ℕ) → bytes.AreSymbolicNodes k memory.old → bytes.AreSymbolicNodes k memory.new) }
+    ensures value { (p : NumberedProgram) (ns : NodeList) → OnOk result (bytes.symbolics_of p ns memory.new
+        ≡ (if access.writes then symbolics.spoiled (bounds_of access.last) (Pinned n) (bytes.symbolics_of p ns memory.old) else bytes.symbolics_of p ns memory.old)) }
 {
     if access.writes {
         let f = bounds(access.last);
@@ -157,14 +170,14 @@ fn forget_access(memory: &mut ShadowMemory, access: FreeAccess, n: usize) -> Res
 
 /// Memory after the access with this number of an instance's region, if there is one.
 fn forget_next(
-    memory: &mut ShadowMemory,
+    memory: &mut SymbolicMemory,
     r: &ReferenceRun,
     n: usize,
     k: usize,
 ) -> Result<(), AllocError>
-    ensures is { OnOk result ((j : ℕ) → bytes.AreSources j memory.old → bytes.AreSources j memory.new) }
+    ensures is { OnOk result ((j : ℕ) → bytes.AreSymbolicNodes j memory.old → bytes.AreSymbolicNodes j memory.new) }
     ensures value { (p : NumberedProgram) (ns : NodeList) → IfSome (landmark_at r.now n) (λ l. IfSome l.region (λ f. OnOk result
-        (forgotten_bytes (drop (k + 1) f.accesses) (Pinned n) (bytes.shadows_of p ns memory.new) ≡ forgotten_bytes (drop k f.accesses) (Pinned n) (bytes.shadows_of p ns memory.old)))) }
+        (forgotten_bytes (drop (k + 1) f.accesses) (Pinned n) (bytes.symbolics_of p ns memory.new) ≡ forgotten_bytes (drop k f.accesses) (Pinned n) (bytes.symbolics_of p ns memory.old)))) }
 {
     match r.access(n, k) {
         Some(access) => forget_access(memory, access, n),
@@ -173,10 +186,10 @@ fn forget_next(
 }
 
 /// Memory after a live instance of a region: what lies within the bounds of its stores isn't known.
-fn forget(memory: &mut ShadowMemory, r: &ReferenceRun, n: usize) -> Result<(), AllocError>
-    ensures is { OnOk result ((k : ℕ) → bytes.AreSources k memory.old → bytes.AreSources k memory.new) }
-    ensures value { (p : NumberedProgram) (ns : NodeList) → IfSome (landmark_at r.now n) (λ l. IfSome l.region (λ f. OnOk result (bytes.shadows_of p ns memory.new
-        ≡ forgotten_bytes f.accesses (Pinned n) (bytes.shadows_of p ns memory.old)))) }
+fn forget(memory: &mut SymbolicMemory, r: &ReferenceRun, n: usize) -> Result<(), AllocError>
+    ensures is { OnOk result ((k : ℕ) → bytes.AreSymbolicNodes k memory.old → bytes.AreSymbolicNodes k memory.new) }
+    ensures value { (p : NumberedProgram) (ns : NodeList) → IfSome (landmark_at r.now n) (λ l. IfSome l.region (λ f. OnOk result (bytes.symbolics_of p ns memory.new
+        ≡ forgotten_bytes f.accesses (Pinned n) (bytes.symbolics_of p ns memory.old)))) }
 {
     for k in 0..r.access_count(n) {
         forget_next(memory, r, n, k)?;
@@ -193,14 +206,14 @@ fn is_instance(step: OpStep) -> bool
 
 /// Memory after a live step that is neither an access nor an event: an instance forgets what lies within those of its stores.
 pub(crate) fn forget_instance(
-    memory: &mut ShadowMemory,
+    memory: &mut SymbolicMemory,
     r: &ReferenceRun,
     n: usize,
     step: OpStep,
 ) -> Result<(), AllocError>
-    ensures is { OnOk result ((k : ℕ) → bytes.AreSources k memory.old → bytes.AreSources k memory.new) }
+    ensures is { OnOk result ((k : ℕ) → bytes.AreSymbolicNodes k memory.old → bytes.AreSymbolicNodes k memory.new) }
     ensures value { (p : NumberedProgram) (ns : NodeList) (b : ℕ) → IfSome (landmark_at r.now n) (λ l. step.freed ≡ is_some l.region
-        → OnOk result (bytes.shadows_of p ns memory.new b ≡ bytes_freed step.pinned n l.region (bytes.shadows_of p ns memory.old) b)) }
+        → OnOk result (bytes.symbolics_of p ns memory.new b ≡ bytes_freed step.pinned n l.region (bytes.symbolics_of p ns memory.old) b)) }
 {
     if is_instance(step) {
         forget(memory, r, n)

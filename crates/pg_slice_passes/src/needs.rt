@@ -12,8 +12,8 @@ ghost use Rattle.pg_slice_checks.specs.Asks.{Adds, AreNamed};
 ghost use Rattle.pg_slice_replay.specs.Given.{access_as};
 ghost use Rattle.pg_slice_replay.specs.Kept.{landmark_at, step_count};
 ghost use Rattle.pg_slice_memory.specs.Changes as bytes;
-ghost use Rattle.pg_slice_registers.specs.Sourced.{AreSources, registers_by};
-ghost use Rattle.pg_slice_values.specs.Sources.{Grew, IsSource, shadow_by};
+ghost use Rattle.pg_slice_registers.specs.SymbolicRegisterNodes.{AreSymbolicNodes, registers_by};
+ghost use Rattle.pg_slice_values.specs.SymbolicNodes.{Grew, IsSymbolicNode, symbolic_by};
 ghost use Rattle.pg_slice_passes.specs.Given.{FitsBranch, FitsEvent, FitsKind, IsAccess};
 ghost use Rattle.pg_slice_passes.specs.Passes.{is_library_call};
 ghost use Rattle.pg_slice_passes.specs.State.{AreKept};
@@ -22,25 +22,25 @@ ghost use Rattle.pg_run_trace.specs.declared.step.Access.{Access as AStepAccess}
 ghost use Rattle.pg_run_trace.specs.declared.step.Event.{Event as AnEvent};
 ghost use Rattle.pg_region_paths.specs.Paths.{offsets_of};
 ghost use Rattle.pg_slice_rules.specs.Closed.{conditions_at};
-ghost use Rattle.pg_slice_rules.specs.Known.{is_branch, operand_at, operand_shadows};
+ghost use Rattle.pg_slice_rules.specs.Known.{is_branch, operand_at, operand_symbolics};
 ghost use Rattle.pg_slice_checks.specs.Asks.{all_hold, all_met};
 ghost use Rattle.pg_slice_checks.specs.Steps as steps;
 ghost use Rattle.pg_slice_registers.specs.Events.{IsLibraryCall};
 ghost use Rattle.pg_slice_passes.specs.Along.{own_asks};
 ghost use Rattle.pg_slice_passes.specs.Passes.{IsAt, fixed_by};
 
-use crate::state::RunSources;
+use crate::state::SymbolicRun;
 use pg_ir::{Instr, LibraryCall, Op, Program, Value};
 use pg_precondition::Nodes;
 use pg_region_paths::Root;
 use pg_run_trace::{Step, StepKind};
 use pg_slice_checks::{Asked, path_needs, step_needs};
 use pg_slice_decisions::DecisionSet;
-use pg_slice_memory::ShadowMemory;
+use pg_slice_memory::SymbolicMemory;
 use pg_slice_registers::operand;
 use pg_slice_replay::{FreeAccess, ReferenceRun, offsets};
 use pg_slice_rules::Decision;
-use pg_slice_values::{Source, constant, unset, value};
+use pg_slice_values::{SymbolicNode, constant, unset, value};
 use std::alloc::AllocError;
 
 /// What is known of the root of a path, by the registers of the present call.
@@ -48,12 +48,12 @@ fn root(
     nodes: &mut Nodes,
     p: &Program,
     root: Root,
-    registers: &[Source],
-) -> Result<Source, AllocError>
-    requires { AreSources (length nodes.old) registers.now }
+    registers: &[SymbolicNode],
+) -> Result<SymbolicNode, AllocError>
+    requires { AreSymbolicNodes (length nodes.old) registers.now }
     ensures grew { Grew nodes.old nodes.new }
-    ensures is { IfOk result (IsSource (length nodes.new)) }
-    ensures value { IfOk result (λ s. shadow_by nodes.new s ≡ rules.root_shadow p.now (registers_by nodes.old registers.now) root) }
+    ensures is { IfOk result (IsSymbolicNode (length nodes.new)) }
+    ensures value { IfOk result (λ s. symbolic_by nodes.new s ≡ rules.root_symbolic p.now (registers_by nodes.old registers.now) root) }
 {
     match root {
         Root::Register(r) => value(nodes, p, Value::Register(r), registers),
@@ -76,8 +76,8 @@ fn first(words: &[u64], count: usize) -> &[u64]
 #[derive(Clone, Copy)]
 struct Frame<'a> {
     p: &'a Program,
-    memory: &'a ShadowMemory,
-    registers: &'a [Source],
+    memory: &'a SymbolicMemory,
+    registers: &'a [SymbolicNode],
 }
 
 /// What a path of a region's access asks.
@@ -87,12 +87,12 @@ fn access_needs(
     frame: &Frame,
     access: &FreeAccess,
 ) -> Result<(), AllocError>
-    requires registers { AreSources (length nodes.old) frame.now.registers.now }
-    requires names { bytes.AreSources (length nodes.old) frame.now.memory.now }
+    requires registers { AreSymbolicNodes (length nodes.old) frame.now.registers.now }
+    requires names { bytes.AreSymbolicNodes (length nodes.old) frame.now.memory.now }
     ensures grew { Grew nodes.old nodes.new }
     ensures adds { IfOk result (λ u. (ns : NodeList) (a : AnAccess) → Grew nodes.new ns → access_as access.now ≡ a
-        → Adds ns (rules.path_needs (bytes.shadows_of frame.now.p.now ns frame.now.memory.now)
-        (rules.root_shadow frame.now.p.now (registers_by ns frame.now.registers.now) a.path.root) (offsets_of a.path.loads) a.at.pointers a.at.cells a.at.last) asked.old asked.new) }
+        → Adds ns (rules.path_needs (bytes.symbolics_of frame.now.p.now ns frame.now.memory.now)
+        (rules.root_symbolic frame.now.p.now (registers_by ns frame.now.registers.now) a.path.root) (offsets_of a.path.loads) a.at.pointers a.at.cells a.at.last) asked.old asked.new) }
 {
     let from = root(nodes, frame.p, access.path.root, frame.registers)?;
     let (offsets, count) = offsets(access.path.loads);
@@ -120,11 +120,11 @@ fn free_access_needs(
     n: usize,
     k: usize,
 ) -> Result<(), AllocError>
-    requires registers { AreSources (length nodes.old) frame.now.registers.now }
-    requires names { bytes.AreSources (length nodes.old) frame.now.memory.now }
+    requires registers { AreSymbolicNodes (length nodes.old) frame.now.registers.now }
+    requires names { bytes.AreSymbolicNodes (length nodes.old) frame.now.memory.now }
     ensures grew { Grew nodes.old nodes.new }
     ensures adds { IfSome (landmark_at r.now n) (λ l. IfSome l.region (λ f. IfOk result (λ u. (ns : NodeList) (a : AnAccess) → Grew nodes.new ns → slice_get f.accesses k ≡ Some a
-        → Adds ns (rules.path_needs (bytes.shadows_of frame.now.p.now ns frame.now.memory.now) (rules.root_shadow frame.now.p.now (registers_by ns frame.now.registers.now) a.path.root)
+        → Adds ns (rules.path_needs (bytes.symbolics_of frame.now.p.now ns frame.now.memory.now) (rules.root_symbolic frame.now.p.now (registers_by ns frame.now.registers.now) a.path.root)
         (offsets_of a.path.loads) a.at.pointers a.at.cells a.at.last) asked.old asked.new))) }
 {
     if let Some(access) = r.access(n, k) {
@@ -142,11 +142,11 @@ fn region_needs(
     n: usize,
 ) -> Result<(), AllocError>
     requires number { n < step_count r.now }
-    requires registers { AreSources (length nodes.old) frame.now.registers.now }
-    requires names { bytes.AreSources (length nodes.old) frame.now.memory.now }
+    requires registers { AreSymbolicNodes (length nodes.old) frame.now.registers.now }
+    requires names { bytes.AreSymbolicNodes (length nodes.old) frame.now.memory.now }
     ensures grew { Grew nodes.old nodes.new }
     ensures adds { IfSome (landmark_at r.now n) (λ l. IfOk result (λ u. (ns : NodeList) (x : Seen) → Grew nodes.new ns → rules.registers_before x ≡ registers_by ns frame.now.registers.now
-        → x.before.bytes ≡ bytes.shadows_of frame.now.p.now ns frame.now.memory.now → Adds ns (rules.region_needs_in frame.now.p.now x l.region) asked.old asked.new)) }
+        → x.before.bytes ≡ bytes.symbolics_of frame.now.p.now ns frame.now.memory.now → Adds ns (rules.region_needs_in frame.now.p.now x l.region) asked.old asked.new)) }
 {
     if !r.is_free(n) {
         return Ok(());
@@ -162,13 +162,13 @@ fn address(
     nodes: &mut Nodes,
     p: &Program,
     op: &Op,
-    registers: &[Source],
-) -> Result<Source, AllocError>
+    registers: &[SymbolicNode],
+) -> Result<SymbolicNode, AllocError>
     requires access { IsAccess op.now }
-    requires sources { AreSources (length nodes.old) registers.now }
+    requires symbolic_nodes { AreSymbolicNodes (length nodes.old) registers.now }
     ensures grew { Grew nodes.old nodes.new }
-    ensures is { IfOk result (IsSource (length nodes.new)) }
-    ensures value { IfOk result (λ s. shadow_by nodes.new s ≡ operand_at p.now (registers_by nodes.old registers.now) op.now (rules.address_index op.now)) }
+    ensures is { IfOk result (IsSymbolicNode (length nodes.new)) }
+    ensures value { IfOk result (λ s. symbolic_by nodes.new s ≡ operand_at p.now (registers_by nodes.old registers.now) op.now (rules.address_index op.now)) }
 {
     match op {
         Op::Load { .. } => operand(nodes, p, op, 0, registers),
@@ -183,17 +183,17 @@ struct LiveOp<'a> {
     p: &'a Program,
     op: &'a Op,
     kind: &'a StepKind,
-    registers: &'a [Source],
+    registers: &'a [SymbolicNode],
 }
 
 /// What a load or a store asks.
 fn at_needs(asked: &mut Asked, nodes: &mut Nodes, s: &LiveOp, fixed: bool) -> Result<(), AllocError>
     requires access { IsAccess s.now.op.now }
     requires kind { (a : AStepAccess) × (s.now.kind.now ≡ kinds.Access a) }
-    requires sources { AreSources (length nodes.old) s.now.registers.now }
+    requires symbolic_nodes { AreSymbolicNodes (length nodes.old) s.now.registers.now }
     ensures grew { Grew nodes.old nodes.new }
     ensures adds { IfOk result (λ u. (ns : NodeList) → Grew nodes.new ns
-        → Adds ns (steps.step_needs fixed (operand_shadows s.now.p.now (registers_by ns s.now.registers.now) s.now.op.now) s.now.op.now s.now.kind.now) asked.old asked.new) }
+        → Adds ns (steps.step_needs fixed (operand_symbolics s.now.p.now (registers_by ns s.now.registers.now) s.now.op.now) s.now.op.now s.now.kind.now) asked.old asked.new) }
 {
     let at = address(nodes, s.p, s.op, s.registers)?;
     step_needs(asked, s.op, s.kind, &[at, at], fixed)?;
@@ -204,10 +204,10 @@ fn at_needs(asked: &mut Asked, nodes: &mut Nodes, s: &LiveOp, fixed: bool) -> Re
 fn call_needs(asked: &mut Asked, nodes: &mut Nodes, s: &LiveOp) -> Result<(), AllocError>
     requires call { IsLibraryCall s.now.op.now }
     requires kind { (e : AnEvent) × (s.now.kind.now ≡ kinds.Event e) }
-    requires sources { AreSources (length nodes.old) s.now.registers.now }
+    requires symbolic_nodes { AreSymbolicNodes (length nodes.old) s.now.registers.now }
     ensures grew { Grew nodes.old nodes.new }
     ensures adds { IfOk result (λ u. (ns : NodeList) → Grew nodes.new ns
-        → Adds ns (steps.step_needs false (operand_shadows s.now.p.now (registers_by ns s.now.registers.now) s.now.op.now) s.now.op.now s.now.kind.now) asked.old asked.new) }
+        → Adds ns (steps.step_needs false (operand_symbolics s.now.p.now (registers_by ns s.now.registers.now) s.now.op.now) s.now.op.now s.now.kind.now) asked.old asked.new) }
 {
     let first = operand(nodes, s.p, s.op, 0, s.registers)?;
     let second = operand(nodes, s.p, s.op, 1, s.registers)?;
@@ -225,10 +225,10 @@ fn branch_needs(
 ) -> Result<(), AllocError>
     requires fits { FitsBranch s.now.op.now }
     requires kind { (condition : ℕ) × (s.now.kind.now ≡ kinds.Branch condition) }
-    requires sources { AreSources (length nodes.old) s.now.registers.now }
+    requires symbolic_nodes { AreSymbolicNodes (length nodes.old) s.now.registers.now }
     ensures grew { Grew nodes.old nodes.new }
     ensures adds { IfOk result (λ u. (ns : NodeList) → Grew nodes.new ns
-        → Adds ns (steps.step_needs fixed (operand_shadows s.now.p.now (registers_by ns s.now.registers.now) s.now.op.now) s.now.op.now s.now.kind.now) asked.old asked.new) }
+        → Adds ns (steps.step_needs fixed (operand_symbolics s.now.p.now (registers_by ns s.now.registers.now) s.now.op.now) s.now.op.now s.now.kind.now) asked.old asked.new) }
 {
     if !fixed {
         return Ok(());
@@ -251,10 +251,10 @@ pub fn is_malloc(op: &Op) -> bool
 /// What an allocation asks: the size of a `malloc`.
 fn size_needs(asked: &mut Asked, nodes: &mut Nodes, s: &LiveOp) -> Result<(), AllocError>
     requires kind { (size : ℕ) × (place : ℕ) × (s.now.kind.now ≡ kinds.Allocation size place) }
-    requires sources { AreSources (length nodes.old) s.now.registers.now }
+    requires symbolic_nodes { AreSymbolicNodes (length nodes.old) s.now.registers.now }
     ensures grew { Grew nodes.old nodes.new }
     ensures adds { IfOk result (λ u. (ns : NodeList) → Grew nodes.new ns
-        → Adds ns (steps.step_needs false (operand_shadows s.now.p.now (registers_by ns s.now.registers.now) s.now.op.now) s.now.op.now s.now.kind.now) asked.old asked.new) }
+        → Adds ns (steps.step_needs false (operand_symbolics s.now.p.now (registers_by ns s.now.registers.now) s.now.op.now) s.now.op.now s.now.kind.now) asked.old asked.new) }
 {
     if !is_malloc(s.op) {
         return Ok(());
@@ -277,10 +277,10 @@ fn is_call(op: &Op) -> bool
 /// What an event asks that is no load or store: a start and an exit by a return ask nothing.
 fn event_needs(asked: &mut Asked, nodes: &mut Nodes, s: &LiveOp) -> Result<(), AllocError>
     requires kind { (e : AnEvent) × (s.now.kind.now ≡ kinds.Event e) × FitsEvent e s.now.op.now }
-    requires sources { AreSources (length nodes.old) s.now.registers.now }
+    requires symbolic_nodes { AreSymbolicNodes (length nodes.old) s.now.registers.now }
     ensures grew { Grew nodes.old nodes.new }
     ensures adds { IfOk result (λ u. (ns : NodeList) → Grew nodes.new ns
-        → Adds ns (steps.step_needs false (operand_shadows s.now.p.now (registers_by ns s.now.registers.now) s.now.op.now) s.now.op.now s.now.kind.now) asked.old asked.new) }
+        → Adds ns (steps.step_needs false (operand_symbolics s.now.p.now (registers_by ns s.now.registers.now) s.now.op.now) s.now.op.now s.now.kind.now) asked.old asked.new) }
 {
     if is_call(s.op) {
         call_needs(asked, nodes, s)?;
@@ -296,10 +296,10 @@ fn operand_needs(
     fixed: bool,
 ) -> Result<(), AllocError>
     requires fits { FitsKind s.now.op.now s.now.kind.now }
-    requires sources { AreSources (length nodes.old) s.now.registers.now }
+    requires symbolic_nodes { AreSymbolicNodes (length nodes.old) s.now.registers.now }
     ensures grew { Grew nodes.old nodes.new }
     ensures adds { IfOk result (λ u. (ns : NodeList) → Grew nodes.new ns
-        → Adds ns (steps.step_needs fixed (operand_shadows s.now.p.now (registers_by ns s.now.registers.now) s.now.op.now) s.now.op.now s.now.kind.now) asked.old asked.new) }
+        → Adds ns (steps.step_needs fixed (operand_symbolics s.now.p.now (registers_by ns s.now.registers.now) s.now.op.now) s.now.op.now s.now.kind.now) asked.old asked.new) }
 {
     match s.kind {
         StepKind::Access(_) => at_needs(asked, nodes, s, fixed),
@@ -350,7 +350,7 @@ pub(crate) fn needs(
     asked: &mut Asked,
     nodes: &mut Nodes,
     p: &Program,
-    s: &RunSources,
+    s: &SymbolicRun,
     step: &Step,
     x: &Instr,
     d: &DecisionSet,
@@ -359,7 +359,7 @@ pub(crate) fn needs(
 ) -> Result<(), AllocError>
     requires fits { FitsKind x.now.op step.now.kind }
     requires number { n < step_count r.now }
-    requires sources { AreKept (length nodes.old) s.now }
+    requires symbolic_nodes { AreKept (length nodes.old) s.now }
     ensures grew { Grew nodes.old nodes.new }
     ensures missing { IfOk result (λ u. (R : Reference) (y : Seen) → IsAt R (taken_by d.now) p.now nodes.old s.now r.now n step.now x.now y
         → asked.new.missing.items ≡ asked.old.missing.items ++ own_asks R (taken_by d.now) y) }

@@ -9,7 +9,7 @@ ghost use Rattle.pg_slice_decisions.specs.Steps.{taken_by};
 ghost use Rattle.pg_precondition.specs.Names.{AreNeeded};
 ghost use Rattle.pg_slice_checks.specs.Asks.{AreNamed, all_hold};
 ghost use Rattle.pg_precondition.specs.Values.{is_admitted};
-ghost use Rattle.pg_slice_values.specs.Sources.{Grew};
+ghost use Rattle.pg_slice_values.specs.SymbolicNodes.{Grew};
 ghost use Rattle.pg_slice_passes.specs.Given.{AreGiven, HasLandmarks, reference_of};
 ghost use Rattle.std.specs.Prelude.{◌++◌, map};
 ghost use Rattle.pg_slice_conflicts.specs.Meets.{InOrder, is_met};
@@ -21,7 +21,7 @@ ghost use Rattle.pg_slice_passes.specs.State.{AreKept};
 use crate::footprints::{Footprints, TimedStep, add_footprints, ask_met};
 use crate::given::GivenRun;
 use crate::needs::needs;
-use crate::state::RunSources;
+use crate::state::SymbolicRun;
 use crate::step::StepAt;
 use pg_precondition::{Check, Nodes, Precondition, needed};
 use pg_schedule::interval_at;
@@ -42,7 +42,7 @@ pub struct Passed {
 /// footprints.
 #[derive(Drop)]
 pub struct Gathered {
-    pub(crate) sources: RunSources,
+    pub(crate) symbolic_nodes: SymbolicRun,
     pub(crate) asked: Asked,
     pub(crate) footprints: Footprints,
 }
@@ -80,9 +80,9 @@ fn pass_step(
 ) -> Result<(), AllocError>
     requires given { AreGiven run.now.p.now run.now.t.now.steps run.now.intervals.now run.now.r.now }
     requires number { n < length run.now.t.now.steps }
-    requires sources { AreKept (length nodes.old) g.old.sources }
+    requires symbolic_nodes { AreKept (length nodes.old) g.old.symbolic_nodes }
     ensures grew { Grew nodes.old nodes.new }
-    ensures sources { OnOk result (AreKept (length nodes.new) g.new.sources) }
+    ensures symbolic_nodes { OnOk result (AreKept (length nodes.new) g.new.symbolic_nodes) }
     ensures earlier { OnOk result (AreEarlier run.now.t.now.steps n g.old.footprints → AreEarlier run.now.t.now.steps (n + 1) g.new.footprints) }
     ensures named { OnOk result (AreNamed (length nodes.old) g.old.asked.checks.items → AreNamed (length nodes.new) g.new.asked.checks.items) }
     ensures passed { OnOk result ((regions : Regions) (gated : List InstrId) (input : List ℤ) → HasLandmarks (reference_of run.now.p.now regions gated input run.now.t.now.steps) run.now.r.now
@@ -96,7 +96,7 @@ fn pass_step(
         &mut g.asked,
         nodes,
         run.p,
-        &g.sources,
+        &g.symbolic_nodes,
         &step,
         x,
         d,
@@ -109,7 +109,7 @@ fn pass_step(
         r: run.r,
         n,
     };
-    add_footprints(&mut g.footprints, &g.sources, &at)?;
+    add_footprints(&mut g.footprints, &g.symbolic_nodes, &at)?;
     let s = StepAt {
         alloc,
         p: run.p,
@@ -119,7 +119,7 @@ fn pass_step(
         r: run.r,
         n,
     };
-    g.sources.step(nodes, &s)?;
+    g.symbolic_nodes.step(nodes, &s)?;
     Ok(())
 }
 
@@ -139,9 +139,9 @@ fn gather(
         → HasLandmarks (reference_of run.now.p.now regions gated input run.now.t.now.steps) run.now.r.now
         → HasPassed (reference_of run.now.p.now regions gated input run.now.t.now.steps) (taken_by d.now) (length run.now.t.now.steps) nodes.new g) }
 {
-    let sources = RunSources::start(alloc, nodes, run.p)?;
+    let symbolic_nodes = SymbolicRun::start(alloc, nodes, run.p)?;
     let mut g = Gathered {
-        sources,
+        symbolic_nodes,
         asked: Asked::new(alloc),
         footprints: Footprints::new(alloc),
     };

@@ -6,15 +6,15 @@ ghost use Rattle.pg_precondition.specs.Nodes.{NodeList};
 ghost use Rattle.pg_slice_rules.specs.Extents as extents;
 ghost use Rattle.pg_slice_rules.specs.Extents.{open_after};
 ghost use Rattle.pg_slice_rules.specs.Freeable.{Regions};
-ghost use Rattle.pg_slice_rules.specs.Known.{Reference, RunShadow, after_step, live_after, region_of, start_of, thread_of, with_extents};
+ghost use Rattle.pg_slice_rules.specs.Known.{Reference, SymbolicState, after_step, live_after, region_of, start_of, thread_of, with_extents};
 ghost use Rattle.pg_slice_rules.specs.Moments.{Moment, instr_in, thread_in};
 ghost use Rattle.pg_slice_decisions.specs.Steps.{taken_by};
 ghost use Rattle.pg_slice_decisions.specs.Open.{left_free};
 ghost use Rattle.pg_slice_replay.specs.Kept.{landmark_at, step_count};
 ghost use Rattle.pg_slice_replay.specs.Landmarks.{landmark_of};
-ghost use Rattle.pg_slice_values.specs.Sources.{Grew};
+ghost use Rattle.pg_slice_values.specs.SymbolicNodes.{Grew};
 ghost use Rattle.pg_slice_passes.specs.Given.{CanGo};
-ghost use Rattle.pg_slice_passes.specs.State.{AreKept, Knows, sources_in};
+ghost use Rattle.pg_slice_passes.specs.State.{AreKept, Knows, symbolic_nodes_in};
 
 use crate::memory::first_words;
 use crate::step::StepAt;
@@ -22,19 +22,19 @@ use crate::threads::{first_extents, first_threads, pass_extents, thread_register
 use pg_ir::Program;
 use pg_precondition::Nodes;
 use pg_slice_decisions::{DecisionSet, OpenExtents};
-use pg_slice_memory::ShadowMemory;
-use pg_slice_registers::ThreadSources;
+use pg_slice_memory::SymbolicMemory;
+use pg_slice_registers::SymbolicRegisters;
 use pg_slice_replay::ReferenceRun;
-use pg_slice_values::Source;
+use pg_slice_values::SymbolicNode;
 use std::alloc::{AllocError, Global};
 
 /// What is known before a step of a reference run: of the registers of each thread's calls, of the bytes of memory, of each
 /// thread's word, and where the open extents of each thread end.
 #[derive(Drop)]
-pub struct RunSources {
-    pub(crate) threads: Vec<ThreadSources>,
-    pub(crate) memory: ShadowMemory,
-    pub(crate) words: Vec<Source>,
+pub struct SymbolicRun {
+    pub(crate) threads: Vec<SymbolicRegisters>,
+    pub(crate) memory: SymbolicMemory,
+    pub(crate) words: Vec<SymbolicNode>,
     pub(crate) extents: Vec<OpenExtents>,
 }
 
@@ -46,7 +46,7 @@ fn left_join(d: &DecisionSet, r: &ReferenceRun, n: usize) -> Option<u32>
     if d.is_pinned(n) { None } else { r.join(n) }
 }
 
-impl RunSources {
+impl SymbolicRun {
     /// What is known before the first step.
     ///
     /// # Errors
@@ -56,7 +56,7 @@ impl RunSources {
         alloc: Global,
         nodes: &mut Nodes,
         p: &Program,
-    ) -> Result<RunSources, AllocError>
+    ) -> Result<SymbolicRun, AllocError>
         ensures grew { Grew nodes.old nodes.new }
         ensures is { IfOk result (AreKept (length nodes.new)) }
         ensures knows { IfOk result (λ s. (pinned : ℕ → Bool) → Knows p.now nodes.new pinned s (start_of p.now)) }
@@ -64,24 +64,24 @@ impl RunSources {
         let extents = first_extents(alloc)?;
         let words = first_words(alloc, nodes)?;
         let threads = first_threads(alloc, nodes, p)?;
-        Ok(RunSources {
+        Ok(SymbolicRun {
             threads,
-            memory: ShadowMemory::new(alloc),
+            memory: SymbolicMemory::new(alloc),
             words,
             extents,
         })
     }
 
     /// The registers of the present call of a thread; none where there is no such thread, or it has ended.
-    pub(crate) fn registers(&self, t: usize) -> &[Source]
-        ensures { result.now ≡ sources_in self.now t }
+    pub(crate) fn registers(&self, t: usize) -> &[SymbolicNode]
+        ensures { result.now ≡ symbolic_nodes_in self.now t }
     {
         thread_registers(self.threads.as_slice(), t)
     }
 
     /// Whether a step of a thread is live; where there is no such thread it is.
     pub(crate) fn is_live(&self, t: usize) -> bool
-        ensures { (p : NumberedProgram) (ns : NodeList) (pinned : ℕ → Bool) (k : RunShadow) → Knows p ns pinned self.now k
+        ensures { (p : NumberedProgram) (ns : NodeList) (pinned : ℕ → Bool) (k : SymbolicState) → Knows p ns pinned self.now k
             → result ≡ extents.is_live pinned (thread_of k t).extents }
     {
         match self.extents.get(t) {
@@ -101,7 +101,7 @@ impl RunSources {
     ) -> Result<(), AllocError>
         requires { n < step_count r.now }
         ensures kept { OnOk result ((k : ℕ) → AreKept k self.old → AreKept k self.new) }
-        ensures value { (p : NumberedProgram) (ns : NodeList) (k : RunShadow) → Knows p ns (taken_by d.now).pinned self.old k → IfSome (landmark_at r.now n) (λ l. OnOk result
+        ensures value { (p : NumberedProgram) (ns : NodeList) (k : SymbolicState) → Knows p ns (taken_by d.now).pinned self.old k → IfSome (landmark_at r.now n) (λ l. OnOk result
             (Knows p ns (taken_by d.now).pinned self.new (record k { threads = with_extents t (open_after n l.depth l.region l.edge (thread_of k t).extents) k.threads }))) }
     {
         let free = left_join(d, r, n);
@@ -111,10 +111,10 @@ impl RunSources {
     /// A step as far as it is live: what isn't live passes without a trace.
     fn live_if(&mut self, nodes: &mut Nodes, s: &StepAt) -> Result<(), AllocError>
         requires go { CanGo s.now.p.now s.now.x.now s.now.step.now s.now.r.now s.now.n }
-        requires sources { AreKept (length nodes.old) self.old }
+        requires symbolic_nodes { AreKept (length nodes.old) self.old }
         ensures grew { Grew nodes.old nodes.new }
         ensures is { OnOk result (AreKept (length nodes.new) self.new) }
-        ensures value { (m : Moment) (regions : Regions) (k : RunShadow) → landmark_at s.now.r.now s.now.n ≡ Some (landmark_of s.now.p.now regions m) → m.did.did ≡ s.now.step.now
+        ensures value { (m : Moment) (regions : Regions) (k : SymbolicState) → landmark_at s.now.r.now s.now.n ≡ Some (landmark_of s.now.p.now regions m) → m.did.did ≡ s.now.step.now
             → instr_in s.now.p.now m ≡ Some s.now.x.now
             → Knows s.now.p.now nodes.old (taken_by s.now.d.now).pinned self.old k
             → OnOk result (Knows s.now.p.now nodes.new (taken_by s.now.d.now).pinned self.new
@@ -135,10 +135,10 @@ impl RunSources {
     /// Where no memory is left. Nothing is said of what is kept then.
     pub(crate) fn step(&mut self, nodes: &mut Nodes, s: &StepAt) -> Result<(), AllocError>
         requires go { CanGo s.now.p.now s.now.x.now s.now.step.now s.now.r.now s.now.n }
-        requires sources { AreKept (length nodes.old) self.old }
+        requires symbolic_nodes { AreKept (length nodes.old) self.old }
         ensures grew { Grew nodes.old nodes.new }
         ensures is { OnOk result (AreKept (length nodes.new) self.new) }
-        ensures value { (R : Reference) (m : Moment) (k : RunShadow) → R.program ≡ s.now.p.now → landmark_at s.now.r.now s.now.n ≡ Some (landmark_of s.now.p.now R.regions m)
+        ensures value { (R : Reference) (m : Moment) (k : SymbolicState) → R.program ≡ s.now.p.now → landmark_at s.now.r.now s.now.n ≡ Some (landmark_of s.now.p.now R.regions m)
             → m.did.did ≡ s.now.step.now
             → slice_get s.now.p.now.instrs s.now.step.now.instr.0 ≡ Some s.now.x.now → Knows s.now.p.now nodes.old (taken_by s.now.d.now).pinned self.old k
             → OnOk result (Knows s.now.p.now nodes.new (taken_by s.now.d.now).pinned self.new (after_step R (taken_by s.now.d.now) s.now.n m k)) }

@@ -10,16 +10,16 @@ ghost use Rattle.pg_run_trace.specs.declared.step.Access.{Access};
 ghost use Rattle.pg_run_trace.specs.declared.turn.TurnKind.TheVariants.{Create};
 ghost use Rattle.pg_slice_rules.specs.Extents.{open_after};
 ghost use Rattle.pg_slice_rules.specs.Freeable.{FreeRegion};
-ghost use Rattle.pg_slice_rules.specs.Known.{ThreadShadow, fresh_thread, function_in, load_of, no_thread, on_thread, threads_after, with_extents, with_top};
+ghost use Rattle.pg_slice_rules.specs.Known.{SymbolicThread, fresh_thread, function_in, load_of, no_thread, on_thread, threads_after, with_extents, with_top};
 ghost use Rattle.pg_slice_rules.specs.Known as along;
 ghost use Rattle.pg_slice_rules.specs.Moments.{Moment};
-ghost use Rattle.pg_slice_rules.specs.Shadows.{Shadow};
+ghost use Rattle.pg_slice_rules.specs.SymbolicValues.{Symbolic};
 ghost use Rattle.pg_slice_decisions.specs.declared.open.OpenExtents.{OpenExtents as AnOpen};
 ghost use Rattle.pg_slice_decisions.specs.Open.{left_free};
 ghost use Rattle.pg_slice_values.specs.Forms.{CastFits};
-ghost use Rattle.pg_slice_values.specs.Sources.{Grew, IsSource, shadow_by};
+ghost use Rattle.pg_slice_values.specs.SymbolicNodes.{Grew, IsSymbolicNode, symbolic_by};
 ghost use Rattle.pg_slice_registers.specs.Events.{HasOperands};
-ghost use Rattle.pg_slice_registers.specs.Sourced.{top_sources};
+ghost use Rattle.pg_slice_registers.specs.SymbolicRegisterNodes.{top_symbolic_nodes};
 ghost use Rattle.pg_slice_registers.specs.Steps.{IsStepAt, is_plain};
 ghost use Rattle.pg_slice_registers.specs.Threads.{AreThreads};
 ghost use Rattle.pg_slice_passes.specs.State.{EachOpen, KnowsThreads, extents_in};
@@ -28,8 +28,8 @@ use pg_ir::{Instr, Program};
 use pg_precondition::Nodes;
 use pg_run_trace::{Event, TurnKind};
 use pg_slice_decisions::OpenExtents;
-use pg_slice_registers::{OpStep, ThreadSources, after_create};
-use pg_slice_values::Source;
+use pg_slice_registers::{OpStep, SymbolicRegisters, after_create};
+use pg_slice_values::SymbolicNode;
 use std::alloc::{AllocError, Global};
 
 /// The main thread before the first step.
@@ -37,13 +37,13 @@ pub(crate) fn first_threads(
     alloc: Global,
     nodes: &mut Nodes,
     p: &Program,
-) -> Result<Vec<ThreadSources>, AllocError>
+) -> Result<Vec<SymbolicRegisters>, AllocError>
     ensures grew { Grew nodes.old nodes.new }
     ensures is { IfOk result (λ v. AreThreads (length nodes.new) v.items) }
     ensures knows { IfOk result (λ v. (pinned : ℕ → Bool) (opens : List AnOpen) → EachOpen pinned ([] ∷ []) opens
         → KnowsThreads nodes.new pinned v.items opens (fresh_thread p.now p.now.main ∷ [])) }
 {
-    let main = ThreadSources::new(alloc, nodes, p, p.main())?;
+    let main = SymbolicRegisters::new(alloc, nodes, p, p.main())?;
     let mut threads = Vec::new(alloc);
     threads.push(main)?;
     Ok(threads)
@@ -59,8 +59,8 @@ pub(crate) fn first_extents(alloc: Global) -> Result<Vec<OpenExtents>, AllocErro
 }
 
 /// The registers of the present call of a thread; none where there is no such thread, or it has ended.
-pub(crate) fn thread_registers(threads: &[ThreadSources], t: usize) -> &[Source]
-    ensures { result.now ≡ top_sources (slice_index_or threads.now t []) }
+pub(crate) fn thread_registers(threads: &[SymbolicRegisters], t: usize) -> &[SymbolicNode]
+    ensures { result.now ≡ top_symbolic_nodes (slice_index_or threads.now t []) }
 {
     match threads.get(t) {
         Some(thread) => thread.registers(),
@@ -69,10 +69,15 @@ pub(crate) fn thread_registers(threads: &[ThreadSources], t: usize) -> &[Source]
 }
 
 /// The calls of the threads after a live load or store of one of them, by what a load gives.
-pub(crate) fn after_access(threads: &mut Vec<ThreadSources>, t: usize, x: &Instr, loaded: Source)
-    ensures is { (n : ℕ) → AreThreads n threads.old.items → IsSource n loaded → AreThreads n threads.new.items }
-    ensures value { (ns : NodeList) (p : NumberedProgram) (exact : Bool) (n : ℕ) (a : Access) (bytes : ℕ → Shadow) (pinned : ℕ → Bool) (opens : List AnOpen) (ks : List ThreadShadow)
-        → ((w : Width) (from : Value) → x.now.op ≡ Load w from → shadow_by ns loaded ≡ load_of exact n w a bytes)
+pub(crate) fn after_access(
+    threads: &mut Vec<SymbolicRegisters>,
+    t: usize,
+    x: &Instr,
+    loaded: SymbolicNode,
+)
+    ensures is { (n : ℕ) → AreThreads n threads.old.items → IsSymbolicNode n loaded → AreThreads n threads.new.items }
+    ensures value { (ns : NodeList) (p : NumberedProgram) (exact : Bool) (n : ℕ) (a : Access) (bytes : ℕ → Symbolic) (pinned : ℕ → Bool) (opens : List AnOpen) (ks : List SymbolicThread)
+        → ((w : Width) (from : Value) → x.now.op ≡ Load w from → symbolic_by ns loaded ≡ load_of exact n w a bytes)
         → AreThreads (length ns) threads.old.items → KnowsThreads ns pinned threads.old.items opens ks
         → KnowsThreads ns pinned threads.new.items opens (on_thread (with_top (along.after_access p exact n a bytes x.now x.now.op)) t ks) }
 {
@@ -90,17 +95,17 @@ pub(crate) fn after_event(
     t: usize,
     e: Event,
     function: u32,
-    argument: Source,
-    threads: &mut Vec<ThreadSources>,
+    argument: SymbolicNode,
+    threads: &mut Vec<SymbolicRegisters>,
 ) -> Result<(), AllocError>
     requires call { HasOperands e.kind x.now.op }
-    requires argument { IsSource (length nodes.old) argument }
-    requires sources { AreThreads (length nodes.old) threads.old.items }
+    requires argument { IsSymbolicNode (length nodes.old) argument }
+    requires symbolic_nodes { AreThreads (length nodes.old) threads.old.items }
     ensures grew { Grew nodes.old nodes.new }
     ensures is { OnOk result (AreThreads (length nodes.new) threads.new.items) }
-    ensures value { (m : Moment) (pinned : ℕ → Bool) (opens : List AnOpen) (ks : List ThreadShadow) → function_in m.calls ≡ function
+    ensures value { (m : Moment) (pinned : ℕ → Bool) (opens : List AnOpen) (ks : List SymbolicThread) → function_in m.calls ≡ function
         → KnowsThreads nodes.old pinned threads.old.items opens ks
-        → OnOk result (KnowsThreads nodes.new pinned threads.new.items opens (on_thread (along.after_event p.now m e e.kind (shadow_by nodes.old argument) x.now) t ks)) }
+        → OnOk result (KnowsThreads nodes.new pinned threads.new.items opens (on_thread (along.after_event p.now m e e.kind (symbolic_by nodes.old argument) x.now) t ks)) }
 {
     if t < threads.len() {
         let thread = &mut threads[t];
@@ -119,15 +124,15 @@ pub(crate) fn after_op(
     t: usize,
     step: OpStep,
     sets: &[bool],
-    threads: &mut Vec<ThreadSources>,
+    threads: &mut Vec<SymbolicRegisters>,
 ) -> Result<(), AllocError>
     requires plain { IsTrue (is_plain x.now.op) }
     requires cast { CastFits x.now.op }
     requires block { IfSome step.edge (λ b. b < length p.now.blocks) }
-    requires sources { AreThreads (length nodes.old) threads.old.items }
+    requires symbolic_nodes { AreThreads (length nodes.old) threads.old.items }
     ensures grew { Grew nodes.old nodes.new }
     ensures is { OnOk result (AreThreads (length nodes.new) threads.new.items) }
-    ensures value { (m : Moment) (region : Option FreeRegion) (pinned : ℕ → Bool) (opens : List AnOpen) (ks : List ThreadShadow) → IsStepAt p.now x.now step sets.now m region
+    ensures value { (m : Moment) (region : Option FreeRegion) (pinned : ℕ → Bool) (opens : List AnOpen) (ks : List SymbolicThread) → IsStepAt p.now x.now step sets.now m region
         → KnowsThreads nodes.old pinned threads.old.items opens ks
         → OnOk result (KnowsThreads nodes.new pinned threads.new.items opens (on_thread (along.after_op p.now step.pinned step.number m region step.word x.now x.now.op) t ks)) }
 {
@@ -145,14 +150,14 @@ pub(crate) fn with_created(
     nodes: &mut Nodes,
     p: &Program,
     e: Event,
-    threads: &mut Vec<ThreadSources>,
+    threads: &mut Vec<SymbolicRegisters>,
     extents: &mut Vec<OpenExtents>,
 ) -> Result<(), AllocError>
     requires create { e.kind ≡ Create → slice_index e.operands 2 < length p.now.functions }
-    requires sources { AreThreads (length nodes.old) threads.old.items }
+    requires symbolic_nodes { AreThreads (length nodes.old) threads.old.items }
     ensures grew { Grew nodes.old nodes.new }
     ensures is { OnOk result (AreThreads (length nodes.new) threads.new.items) }
-    ensures value { (pinned : ℕ → Bool) (ks : List ThreadShadow) → KnowsThreads nodes.old pinned threads.old.items extents.old.items ks
+    ensures value { (pinned : ℕ → Bool) (ks : List SymbolicThread) → KnowsThreads nodes.old pinned threads.old.items extents.old.items ks
         → OnOk result (KnowsThreads nodes.new pinned threads.new.items extents.new.items (threads_after p.now e e.kind ks)) }
 {
     if let TurnKind::Create = e.kind {
@@ -174,7 +179,7 @@ pub(crate) fn pass_extents(
     edge: Option<u32>,
     extents: &mut Vec<OpenExtents>,
 ) -> Result<(), AllocError>
-    ensures { OnOk result ((pinned : ℕ → Bool) (n : ℕ) (region : Option FreeRegion) (ks : List ThreadShadow) → free ≡ left_free (pinned n) region
+    ensures { OnOk result ((pinned : ℕ → Bool) (n : ℕ) (region : Option FreeRegion) (ks : List SymbolicThread) → free ≡ left_free (pinned n) region
         → EachOpen pinned (extents_in ks) extents.old.items
         → EachOpen pinned (extents_in (with_extents t (open_after n depth region edge (slice_index_or ks t no_thread).extents) ks)) extents.new.items) }
 {

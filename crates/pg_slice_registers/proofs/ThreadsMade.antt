@@ -6,15 +6,15 @@ use Rattle.pg_run_trace.specs.declared.step.Event.{Event}
 use Rattle.pg_run_trace.specs.declared.turn.TurnKind.{TurnKind}
 use Rattle.pg_run_trace.specs.declared.turn.TurnKind.TheVariants as turns
 use Rattle.pg_slice_rules.specs.Extents.{Extent}
-use Rattle.pg_slice_rules.specs.Shadows.{Shadow}
-use Rattle.pg_slice_rules.specs.Known.{ThreadShadow, fresh_thread, threads_after, on_thread}
-use Rattle.pg_slice_values.specs.Sources.{Grew}
-use Rattle.pg_slice_registers.specs.Sourced.{AreCalls, CallList, calls_by}
+use Rattle.pg_slice_rules.specs.SymbolicValues.{Symbolic}
+use Rattle.pg_slice_rules.specs.Known.{SymbolicThread, fresh_thread, threads_after, on_thread}
+use Rattle.pg_slice_values.specs.SymbolicNodes.{Grew}
+use Rattle.pg_slice_registers.specs.SymbolicRegisterNodes.{AreCalls, CallList, calls_by}
 use Rattle.pg_slice_registers.specs.Threads.{AreThreads, thread_by, threads_by}
 use Rattle.pg_slice_registers.proofs.ThreadCalls.{calls_kept, calls_stay}
 
 one_kept : (old new : NodeList) (t : CallList) (es : List Extent) → Grew old new → AreCalls (length old) t → thread_by new t es ≡ thread_by old t es
-one_kept old new t es g h = let e : calls_by new t ≡ calls_by old t = calls_kept old new t g h in ap (λ (cs : List (List Shadow)). let s : ThreadShadow = record { calls = cs; extents = es } in s) e
+one_kept old new t es g h = let e : calls_by new t ≡ calls_by old t = calls_kept old new t g h in ap (λ (cs : List (List Symbolic)). let s : SymbolicThread = record { calls = cs; extents = es } in s) e
 
 pub threads_kept : (old new : NodeList) (ts : List CallList) (extents : List (List Extent)) → Grew old new → AreThreads (length old) ts → threads_by new ts extents ≡ threads_by old ts extents
 threads_kept old new [] extents g h = refl
@@ -37,19 +37,19 @@ one_thread ns [] t (es ∷ extents) e = absurd (omega arith)
 one_thread ns (u ∷ ts) t [] e = absurd (omega arith)
 one_thread ns (u ∷ ts) t (es ∷ extents) e = ap (λ xs. thread_by ns u es ∷ xs) (one_thread ns ts t extents (omega arith))
 
-pub create_is : (p : NumberedProgram) (e : Event) (kind : TurnKind) (threads : List ThreadShadow) → kind ≡ turns.Create →
+pub create_is : (p : NumberedProgram) (e : Event) (kind : TurnKind) (threads : List SymbolicThread) → kind ≡ turns.Create →
     threads ++ fresh_thread p (slice_index e.operands 2) ∷ [] ≡ threads_after p e kind threads
 create_is p e kind threads h = ap (λ (k : TurnKind). threads_after p e k threads) (sym h)
 
 -- one thread changed, and nodes were added
-pub on_one : (old new : NodeList) (f : List (List Shadow) → List (List Shadow)) (t : ℕ) (ts : List CallList) (calls : CallList) (extents : List (List Extent)) → Grew old new →
+pub on_one : (old new : NodeList) (f : List (List Symbolic) → List (List Symbolic)) (t : ℕ) (ts : List CallList) (calls : CallList) (extents : List (List Extent)) → Grew old new →
     AreThreads (length old) ts → length extents ≡ length ts → t < length ts →
     calls_by new calls ≡ f (calls_by old (slice_index_or ts t [])) → threads_by new (slice_set ts t calls) extents ≡ on_thread f t (threads_by old ts extents)
 on_one old new f t [] calls extents g a l h e = absurd (omega arith)
 on_one old new f t (u ∷ ts) calls [] g a l h e = absurd (omega arith)
 on_one old new f zero (u ∷ ts) calls (es ∷ extents) g a l h e =
-    ap (λ (cs : List (List Shadow)). let s : ThreadShadow = record { calls = cs; extents = es } in s ∷ threads_by new ts extents) e
-    ∙ ap (λ (xs : List ThreadShadow). let s : ThreadShadow = record { calls = f (calls_by old u); extents = es } in s ∷ xs) (threads_kept old new ts extents g a.1)
+    ap (λ (cs : List (List Symbolic)). let s : SymbolicThread = record { calls = cs; extents = es } in s ∷ threads_by new ts extents) e
+    ∙ ap (λ (xs : List SymbolicThread). let s : SymbolicThread = record { calls = f (calls_by old u); extents = es } in s ∷ xs) (threads_kept old new ts extents g a.1)
 on_one old new f (suc t) (u ∷ ts) calls (es ∷ extents) g a l h e =
-    ap (λ (x : ThreadShadow). x ∷ threads_by new (slice_set ts t calls) extents) (one_kept old new u es g a.0)
-    ∙ ap (λ (xs : List ThreadShadow). thread_by old u es ∷ xs) (on_one old new f t ts calls extents g a.1 (omega arith) (omega arith) e)
+    ap (λ (x : SymbolicThread). x ∷ threads_by new (slice_set ts t calls) extents) (one_kept old new u es g a.0)
+    ∙ ap (λ (xs : List SymbolicThread). thread_by old u es ∷ xs) (on_one old new f t ts calls extents g a.1 (omega arith) (omega arith) e)

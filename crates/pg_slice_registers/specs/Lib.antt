@@ -1,4 +1,4 @@
-pub mod Sourced
+pub mod SymbolicRegisterNodes
 pub mod Steps
 pub mod Events
 pub mod Threads

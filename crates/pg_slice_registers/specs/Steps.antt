@@ -10,11 +10,11 @@ use Rattle.pg_run_thread.specs.Compute.{computes}
 use Rattle.pg_slice_rules.specs.Moments.{Moment}
 use Rattle.pg_slice_rules.specs.Freeable.{FreeRegion}
 use Rattle.pg_slice_rules.specs.Extents.{edge_in}
-use Rattle.pg_slice_rules.specs.Shadows.{Shadow, always, valued}
+use Rattle.pg_slice_rules.specs.SymbolicValues.{Symbolic, always, valued}
 use Rattle.pg_slice_rules.specs.declared.decision.Decision.TheVariants.{Pinned}
-use Rattle.pg_slice_rules.specs.Known.{along_edge, caller_target, forgotten_from, from_input, operand_at, operand_shadows, set_shadow}
+use Rattle.pg_slice_rules.specs.Known.{along_edge, caller_target, forgotten_from, from_input, operand_at, operand_symbolics, set_symbolic}
 use Rattle.pg_slice_registers.specs.declared.step.OpStep.{OpStep}
-use Rattle.pg_slice_registers.specs.Sourced.{marked, result_by}
+use Rattle.pg_slice_registers.specs.SymbolicRegisterNodes.{marked, result_by}
 
 -- what is told of a step is what the run has: its edge, the register of its caller, and whether its branch is freeable, with
 -- the registers that its region may set
@@ -27,21 +27,21 @@ pub record IsStepAt (p : NumberedProgram) (x : Instr) (s : OpStep) (sets : List 
 -- ---- instructions that at most set their register
 
 -- what the call of a known function gives its register; a malloc gives the word that it gave in the run
-abbrev pub known_shadow : LibraryCall → ℕ → Shadow → Option Shadow
-known_shadow known.PgIn word s = Some (from_input s)
-known_shadow known.PgInLen word s = Some (valued (λ input. Some (length input)))
-known_shadow known.Malloc word s = Some (always word)
-known_shadow k word s = None
+abbrev pub known_symbolic : LibraryCall → ℕ → Symbolic → Option Symbolic
+known_symbolic known.PgIn word s = Some (from_input s)
+known_symbolic known.PgInLen word s = Some (valued (λ input. Some (length input)))
+known_symbolic known.Malloc word s = Some (always word)
+known_symbolic k word s = None
 
 -- what an instruction gives its register
-abbrev pub given_shadow : NumberedProgram → ℕ → Op → List Shadow → Option Shadow
-given_shadow p word (op.Alloca bytes) rs = Some (always word)
-given_shadow p word (op.CallLibrary k args) rs = known_shadow k word (operand_at p rs (op.CallLibrary k args) 0)
-given_shadow p word o rs = Some (result_by o (operand_shadows p rs o))
+abbrev pub given_symbolic : NumberedProgram → ℕ → Op → List Symbolic → Option Symbolic
+given_symbolic p word (op.Alloca bytes) rs = Some (always word)
+given_symbolic p word (op.CallLibrary k args) rs = known_symbolic k word (operand_at p rs (op.CallLibrary k args) 0)
+given_symbolic p word o rs = Some (result_by o (operand_symbolics p rs o))
 
-abbrev pub set_given : Option ℕ → Option Shadow → List Shadow → List Shadow
+abbrev pub set_given : Option ℕ → Option Symbolic → List Symbolic → List Symbolic
 set_given target None rs = rs
-set_given target (Some s) rs = set_shadow target s rs
+set_given target (Some s) rs = set_symbolic target s rs
 
 abbrev pub is_straight : Op → Bool
 is_straight (op.Alloca bytes) = true
@@ -59,5 +59,5 @@ is_plain (op.Ret v) = true
 is_plain o = is_straight o
 
 -- the registers after a branch: an instance, where the branch is freeable and isn't pinned; else the edge
-abbrev pub branched : NumberedProgram → OpStep → List Bool → ℕ → List Shadow → List Shadow
+abbrev pub branched : NumberedProgram → OpStep → List Bool → ℕ → List Symbolic → List Symbolic
 branched p s sets from rs = if s.freed && not s.pinned then forgotten_from 0 (marked sets) (Pinned s.number) rs else along_edge p from s.edge rs

@@ -2,16 +2,16 @@
 
 ghost use Rattle.std.specs.Prelude.{◌≡◌, ◌++◌, ◌-◌, length, map, replicate, IfOk, OnOk};
 ghost use Rattle.pg_ir.specs.Program.{types_of};
-ghost use Rattle.pg_slice_rules.specs.Shadows as shadows;
-ghost use Rattle.pg_slice_rules.specs.Shadows.{shadow_of};
+ghost use Rattle.pg_slice_rules.specs.SymbolicValues as symbolics;
+ghost use Rattle.pg_slice_rules.specs.SymbolicValues.{symbolic_of};
 ghost use Rattle.pg_slice_rules.specs.Known as known;
-ghost use Rattle.pg_slice_values.specs.Sources.{Grew};
-ghost use Rattle.pg_slice_registers.specs.Sourced.{AreSources, registers_by};
+ghost use Rattle.pg_slice_values.specs.SymbolicNodes.{Grew};
+ghost use Rattle.pg_slice_registers.specs.SymbolicRegisterNodes.{AreSymbolicNodes, registers_by};
 
 use crate::operands::values;
 use pg_ir::{Program, Value};
 use pg_precondition::Nodes;
-use pg_slice_values::{Source, unset};
+use pg_slice_values::{SymbolicNode, unset};
 use std::alloc::{AllocError, Global};
 
 /// How many registers a function has, none where there is no such function.
@@ -26,28 +26,36 @@ pub fn register_count(p: &Program, f: u32) -> usize
     }
 }
 
-/// Adds a source so many times.
-fn push_each(sources: &mut Vec<Source>, s: Source, count: usize) -> Result<(), AllocError>
-    ensures { OnOk result (sources.new.items ≡ sources.old.items ++ replicate count s) }
+/// Adds a symbolic value so many times.
+fn push_each(
+    symbolic_nodes: &mut Vec<SymbolicNode>,
+    s: SymbolicNode,
+    count: usize,
+) -> Result<(), AllocError>
+    ensures { OnOk result (symbolic_nodes.new.items ≡ symbolic_nodes.old.items ++ replicate count s) }
 {
     for _ in 0..count {
-        sources.push(s)?;
+        symbolic_nodes.push(s)?;
     }
     Ok(())
 }
 
 /// Adds so many registers that were never set.
-fn push_unset(nodes: &mut Nodes, sources: &mut Vec<Source>, count: usize) -> Result<(), AllocError>
-    requires { AreSources (length nodes.old) sources.old.items }
+fn push_unset(
+    nodes: &mut Nodes,
+    symbolic_nodes: &mut Vec<SymbolicNode>,
+    count: usize,
+) -> Result<(), AllocError>
+    requires { AreSymbolicNodes (length nodes.old) symbolic_nodes.old.items }
     ensures grew { Grew nodes.old nodes.new }
-    ensures is { OnOk result (AreSources (length nodes.new) sources.new.items) }
-    ensures value { OnOk result (registers_by nodes.new sources.new.items ≡ registers_by nodes.old sources.old.items ++ replicate count shadows.unset) }
+    ensures is { OnOk result (AreSymbolicNodes (length nodes.new) symbolic_nodes.new.items) }
+    ensures value { OnOk result (registers_by nodes.new symbolic_nodes.new.items ≡ registers_by nodes.old symbolic_nodes.old.items ++ replicate count symbolics.unset) }
 {
     let blank = unset(nodes)?;
-    push_each(sources, blank, count)
+    push_each(symbolic_nodes, blank, count)
 }
 
-/// The registers of a call that begins, by the sources of its arguments.
+/// The registers of a call that begins, by the symbolic values of its arguments.
 #[tactic(auto, using(pg_slice_values::proofs::GrowingNodes::grew_then))]
 pub(crate) fn entered(
     alloc: Global,
@@ -55,20 +63,20 @@ pub(crate) fn entered(
     p: &Program,
     g: u32,
     args: &[Value],
-    registers: &[Source],
-) -> Result<Vec<Source>, AllocError>
-    requires sources { AreSources (length nodes.old) registers.now }
+    registers: &[SymbolicNode],
+) -> Result<Vec<SymbolicNode>, AllocError>
+    requires symbolic_nodes { AreSymbolicNodes (length nodes.old) registers.now }
     ensures grew { Grew nodes.old nodes.new }
-    ensures is { IfOk result (λ v. AreSources (length nodes.new) v.items) }
-    ensures value { IfOk result (λ v. registers_by nodes.new v.items ≡ known.entered p.now g (map (shadow_of p.now (registers_by nodes.old registers.now)) args.now)) }
+    ensures is { IfOk result (λ v. AreSymbolicNodes (length nodes.new) v.items) }
+    ensures value { IfOk result (λ v. registers_by nodes.new v.items ≡ known.entered p.now g (map (symbolic_of p.now (registers_by nodes.old registers.now)) args.now)) }
 {
-    let mut sources = values(alloc, nodes, p, args, registers)?;
+    let mut symbolic_nodes = values(alloc, nodes, p, args, registers)?;
     push_unset(
         nodes,
-        &mut sources,
+        &mut symbolic_nodes,
         register_count(p, g).saturating_sub(args.len()),
     )?;
-    Ok(sources)
+    Ok(symbolic_nodes)
 }
 
 /// The registers of a thread's first call, none of which was set.
@@ -77,12 +85,12 @@ pub(crate) fn fresh(
     nodes: &mut Nodes,
     p: &Program,
     f: u32,
-) -> Result<Vec<Source>, AllocError>
+) -> Result<Vec<SymbolicNode>, AllocError>
     ensures grew { Grew nodes.old nodes.new }
-    ensures is { IfOk result (λ v. AreSources (length nodes.new) v.items) }
+    ensures is { IfOk result (λ v. AreSymbolicNodes (length nodes.new) v.items) }
     ensures value { IfOk result (λ v. registers_by nodes.new v.items ≡ known.fresh_registers p.now f) }
 {
-    let mut sources = Vec::new(alloc);
-    push_unset(nodes, &mut sources, register_count(p, f))?;
-    Ok(sources)
+    let mut symbolic_nodes = Vec::new(alloc);
+    push_unset(nodes, &mut symbolic_nodes, register_count(p, f))?;
+    Ok(symbolic_nodes)
 }

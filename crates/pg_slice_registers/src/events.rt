@@ -4,11 +4,11 @@ ghost use Rattle.std.specs.Prelude.{◌≡◌};
 ghost use Rattle.pg_ir.specs.Program.{parameter_count};
 
 use crate::given::printed;
-use crate::thread::ThreadSources;
+use crate::thread::SymbolicRegisters;
 use pg_ir::{Instr, Op, Program};
 use pg_precondition::Nodes;
 use pg_run_trace::{Event, TurnKind};
-use pg_slice_values::{Source, constant};
+use pg_slice_values::{SymbolicNode, constant};
 use std::alloc::AllocError;
 
 /// How many parameters a function has, none where there is no such function.
@@ -23,7 +23,7 @@ fn parameter_count(p: &Program, f: u32) -> u32
     }
 }
 
-impl ThreadSources {
+impl SymbolicRegisters {
     ghost use Rattle.std.specs.Prelude.{◌≡◌, ℕ, Bool, length, OnOk, OnErr};
     ghost use Rattle.pg_num.specs.declared.width.Width.{Width};
     ghost use Rattle.pg_ir.specs.declared.instr.Op.TheVariants.{Load};
@@ -32,18 +32,18 @@ impl ThreadSources {
     ghost use Rattle.pg_precondition.specs.Nodes.{NodeList};
     ghost use Rattle.pg_run_trace.specs.declared.step.Access.{Access};
     ghost use Rattle.pg_slice_rules.specs.Moments.{Moment};
-    ghost use Rattle.pg_slice_rules.specs.Shadows.{Shadow, always};
-    ghost use Rattle.pg_slice_rules.specs.Known.{function_in, load_of, low_byte, operand_at, set_shadow, started, with_top};
+    ghost use Rattle.pg_slice_rules.specs.SymbolicValues.{Symbolic, always};
+    ghost use Rattle.pg_slice_rules.specs.Known.{function_in, load_of, low_byte, operand_at, set_symbolic, started, with_top};
     ghost use Rattle.pg_slice_rules.specs.Known as along;
-    ghost use Rattle.pg_slice_values.specs.Sources.{Grew, IsSource, shadow_by};
-    ghost use Rattle.pg_slice_registers.specs.Sourced.{AreCalls, calls_by};
+    ghost use Rattle.pg_slice_values.specs.SymbolicNodes.{Grew, IsSymbolicNode, symbolic_by};
+    ghost use Rattle.pg_slice_registers.specs.SymbolicRegisterNodes.{AreCalls, calls_by};
     ghost use Rattle.pg_slice_registers.specs.Events.{HasOperands, IsLibraryCall};
 
     /// A start: the first parameter, if there is one, is the thread's argument.
     #[tactic(auto, using(crate::proofs::DefinedEvents::starts, crate::proofs::DefinedEvents::starts_not))]
-    fn begin(&mut self, parameters: u32, argument: Source)
-        ensures value { (ns : NodeList) → calls_by ns self.new ≡ with_top (started parameters (shadow_by ns argument)) (calls_by ns self.old) }
-        ensures is { (n : ℕ) → AreCalls n self.old → IsSource n argument → AreCalls n self.new }
+    fn begin(&mut self, parameters: u32, argument: SymbolicNode)
+        ensures value { (ns : NodeList) → calls_by ns self.new ≡ with_top (started parameters (symbolic_by ns argument)) (calls_by ns self.old) }
+        ensures is { (n : ℕ) → AreCalls n self.old → IsSymbolicNode n argument → AreCalls n self.new }
     {
         if parameters != 0 {
             self.set(Some(0), argument);
@@ -53,11 +53,11 @@ impl ThreadSources {
     /// A print: its register gets the low byte of the number.
     fn print(&mut self, nodes: &mut Nodes, p: &Program, x: &Instr) -> Result<(), AllocError>
         requires call { IsLibraryCall x.now.op }
-        requires sources { AreCalls (length nodes.old) self.old }
+        requires symbolic_nodes { AreCalls (length nodes.old) self.old }
         ensures grew { Grew nodes.old nodes.new }
         ensures is { OnOk result (AreCalls (length nodes.new) self.new) }
         ensures same { OnErr result (self.new ≡ self.old) }
-        ensures value { OnOk result (calls_by nodes.new self.new ≡ with_top (λ rs. set_shadow x.now.result (low_byte (operand_at p.now rs x.now.op 0)) rs) (calls_by nodes.old self.old)) }
+        ensures value { OnOk result (calls_by nodes.new self.new ≡ with_top (λ rs. set_symbolic x.now.result (low_byte (operand_at p.now rs x.now.op 0)) rs) (calls_by nodes.old self.old)) }
     {
         let s = printed(nodes, p, &x.op, self.registers())?;
         self.set(x.result, s);
@@ -71,11 +71,11 @@ impl ThreadSources {
         target: Option<u32>,
         reply: u64,
     ) -> Result<(), AllocError>
-        requires sources { AreCalls (length nodes.old) self.old }
+        requires symbolic_nodes { AreCalls (length nodes.old) self.old }
         ensures grew { Grew nodes.old nodes.new }
         ensures is { OnOk result (AreCalls (length nodes.new) self.new) }
         ensures same { OnErr result (self.new ≡ self.old) }
-        ensures value { OnOk result (calls_by nodes.new self.new ≡ with_top (set_shadow target (always reply)) (calls_by nodes.old self.old)) }
+        ensures value { OnOk result (calls_by nodes.new self.new ≡ with_top (set_symbolic target (always reply)) (calls_by nodes.old self.old)) }
     {
         let s = constant(nodes, reply)?;
         self.set(target, s);
@@ -96,16 +96,16 @@ impl ThreadSources {
         x: &Instr,
         e: Event,
         function: u32,
-        argument: Source,
+        argument: SymbolicNode,
     ) -> Result<(), AllocError>
         requires call { HasOperands e.kind x.now.op }
-        requires argument { IsSource (length nodes.old) argument }
-        requires sources { AreCalls (length nodes.old) self.old }
+        requires argument { IsSymbolicNode (length nodes.old) argument }
+        requires symbolic_nodes { AreCalls (length nodes.old) self.old }
         ensures grew { Grew nodes.old nodes.new }
         ensures is { OnOk result (AreCalls (length nodes.new) self.new) }
         ensures same { OnErr result (self.new ≡ self.old) }
         ensures value { (m : Moment) → function_in m.calls ≡ function
-            → OnOk result (calls_by nodes.new self.new ≡ along.after_event p.now m e e.kind (shadow_by nodes.old argument) x.now (calls_by nodes.old self.old)) }
+            → OnOk result (calls_by nodes.new self.new ≡ along.after_event p.now m e e.kind (symbolic_by nodes.old argument) x.now (calls_by nodes.old self.old)) }
     {
         match e.kind {
             TurnKind::Start => {
@@ -124,11 +124,11 @@ impl ThreadSources {
     }
 
     /// A live load or store, by what a load gives.
-    pub fn after_access(&mut self, x: &Instr, loaded: Source)
-        ensures value { (ns : NodeList) (p : NumberedProgram) (exact : Bool) (n : ℕ) (a : Access) (bytes : ℕ → Shadow)
-            → ((w : Width) (from : Value) → x.now.op ≡ Load w from → shadow_by ns loaded ≡ load_of exact n w a bytes)
+    pub fn after_access(&mut self, x: &Instr, loaded: SymbolicNode)
+        ensures value { (ns : NodeList) (p : NumberedProgram) (exact : Bool) (n : ℕ) (a : Access) (bytes : ℕ → Symbolic)
+            → ((w : Width) (from : Value) → x.now.op ≡ Load w from → symbolic_by ns loaded ≡ load_of exact n w a bytes)
             → calls_by ns self.new ≡ with_top (along.after_access p exact n a bytes x.now x.now.op) (calls_by ns self.old) }
-        ensures is { (n : ℕ) → AreCalls n self.old → IsSource n loaded → AreCalls n self.new }
+        ensures is { (n : ℕ) → AreCalls n self.old → IsSymbolicNode n loaded → AreCalls n self.new }
     {
         if let Op::Load { .. } = &x.op {
             self.set(x.result, loaded);

@@ -4,17 +4,17 @@ ghost use Rattle.std.specs.Prelude.{◌≡◌, length, map, slice_index_or, IsTr
 ghost use Rattle.std.specs.Option.{option_map};
 ghost use Rattle.pg_slice_rules.specs.Known as along;
 ghost use Rattle.pg_slice_rules.specs.Known.{operand_at};
-ghost use Rattle.pg_slice_rules.specs.Shadows.{shadow_of, unset};
-ghost use Rattle.pg_slice_values.specs.Sources.{Grew, IsSource, shadow_by};
+ghost use Rattle.pg_slice_rules.specs.SymbolicValues.{symbolic_of, unset};
+ghost use Rattle.pg_slice_values.specs.SymbolicNodes.{Grew, IsSymbolicNode, symbolic_by};
 ghost use Rattle.pg_slice_values.specs.Forms.{CastFits};
-ghost use Rattle.pg_slice_registers.specs.Sourced.{AreSources, registers_by};
+ghost use Rattle.pg_slice_registers.specs.SymbolicRegisterNodes.{AreSymbolicNodes, registers_by};
 ghost use Rattle.pg_slice_registers.specs.Events.{IsAsked, IsLibraryCall};
-ghost use Rattle.pg_slice_registers.specs.Steps.{given_shadow, is_straight, known_shadow};
+ghost use Rattle.pg_slice_registers.specs.Steps.{given_symbolic, is_straight, known_symbolic};
 
 use crate::operands::{computed, optional};
 use pg_ir::{LibraryCall, Op, Program, Value};
 use pg_precondition::Nodes;
-use pg_slice_values::{Source, constant, from_input, input_length, low_byte, value};
+use pg_slice_values::{SymbolicNode, constant, from_input, input_length, low_byte, value};
 use std::alloc::{AllocError, Global};
 
 /// An argument of a call, by the registers of its frame; where there is none, one that was never set.
@@ -24,12 +24,12 @@ fn argument(
     p: &Program,
     args: &[Value],
     k: usize,
-    registers: &[Source],
-) -> Result<Source, AllocError>
-    requires sources { AreSources (length nodes.old) registers.now }
+    registers: &[SymbolicNode],
+) -> Result<SymbolicNode, AllocError>
+    requires symbolic_nodes { AreSymbolicNodes (length nodes.old) registers.now }
     ensures grew { Grew nodes.old nodes.new }
-    ensures is { IfOk result (IsSource (length nodes.new)) }
-    ensures value { IfOk result (λ s. shadow_by nodes.new s ≡ slice_index_or (map (shadow_of p.now (registers_by nodes.old registers.now)) args.now) k unset) }
+    ensures is { IfOk result (IsSymbolicNode (length nodes.new)) }
+    ensures value { IfOk result (λ s. symbolic_by nodes.new s ≡ slice_index_or (map (symbolic_of p.now (registers_by nodes.old registers.now)) args.now) k unset) }
 {
     optional(nodes, p, args.get(k).copied(), registers)
 }
@@ -45,13 +45,13 @@ pub fn operand(
     p: &Program,
     op: &Op,
     k: usize,
-    registers: &[Source],
-) -> Result<Source, AllocError>
+    registers: &[SymbolicNode],
+) -> Result<SymbolicNode, AllocError>
     requires asked { IsAsked op.now k }
-    requires sources { AreSources (length nodes.old) registers.now }
+    requires symbolic_nodes { AreSymbolicNodes (length nodes.old) registers.now }
     ensures grew { Grew nodes.old nodes.new }
-    ensures is { IfOk result (IsSource (length nodes.new)) }
-    ensures value { IfOk result (λ s. shadow_by nodes.new s ≡ operand_at p.now (registers_by nodes.old registers.now) op.now k) }
+    ensures is { IfOk result (IsSymbolicNode (length nodes.new)) }
+    ensures value { IfOk result (λ s. symbolic_by nodes.new s ≡ operand_at p.now (registers_by nodes.old registers.now) op.now k) }
 {
     match op {
         Op::CondBr { cond, .. } => argument(nodes, p, &[*cond], k, registers),
@@ -69,13 +69,13 @@ pub(crate) fn printed(
     nodes: &mut Nodes,
     p: &Program,
     op: &Op,
-    registers: &[Source],
-) -> Result<Source, AllocError>
+    registers: &[SymbolicNode],
+) -> Result<SymbolicNode, AllocError>
     requires call { IsLibraryCall op.now }
-    requires sources { AreSources (length nodes.old) registers.now }
+    requires symbolic_nodes { AreSymbolicNodes (length nodes.old) registers.now }
     ensures grew { Grew nodes.old nodes.new }
-    ensures is { IfOk result (IsSource (length nodes.new)) }
-    ensures value { IfOk result (λ s. shadow_by nodes.new s ≡ along.low_byte (operand_at p.now (registers_by nodes.old registers.now) op.now 0)) }
+    ensures is { IfOk result (IsSymbolicNode (length nodes.new)) }
+    ensures value { IfOk result (λ s. symbolic_by nodes.new s ≡ along.low_byte (operand_at p.now (registers_by nodes.old registers.now) op.now 0)) }
 {
     let s = operand(nodes, p, op, 0, registers)?;
     low_byte(nodes, s)
@@ -87,12 +87,12 @@ fn read_input(
     nodes: &mut Nodes,
     p: &Program,
     args: &[Value],
-    registers: &[Source],
-) -> Result<Source, AllocError>
-    requires sources { AreSources (length nodes.old) registers.now }
+    registers: &[SymbolicNode],
+) -> Result<SymbolicNode, AllocError>
+    requires symbolic_nodes { AreSymbolicNodes (length nodes.old) registers.now }
     ensures grew { Grew nodes.old nodes.new }
-    ensures is { IfOk result (IsSource (length nodes.new)) }
-    ensures value { IfOk result (λ s. shadow_by nodes.new s ≡ along.from_input (slice_index_or (map (shadow_of p.now (registers_by nodes.old registers.now)) args.now) 0 unset)) }
+    ensures is { IfOk result (IsSymbolicNode (length nodes.new)) }
+    ensures value { IfOk result (λ s. symbolic_by nodes.new s ≡ along.from_input (slice_index_or (map (symbolic_of p.now (registers_by nodes.old registers.now)) args.now) 0 unset)) }
 {
     let index = argument(nodes, p, args, 0, registers)?;
     from_input(nodes, index)
@@ -106,13 +106,13 @@ fn known_given(
     function: LibraryCall,
     args: &[Value],
     word: u64,
-    registers: &[Source],
-) -> Result<Option<Source>, AllocError>
-    requires sources { AreSources (length nodes.old) registers.now }
+    registers: &[SymbolicNode],
+) -> Result<Option<SymbolicNode>, AllocError>
+    requires symbolic_nodes { AreSymbolicNodes (length nodes.old) registers.now }
     ensures grew { Grew nodes.old nodes.new }
-    ensures is { IfOk result (λ o. IfSome o (IsSource (length nodes.new))) }
-    ensures value { IfOk result (λ o. option_map (shadow_by nodes.new) o
-        ≡ known_shadow function word (slice_index_or (map (shadow_of p.now (registers_by nodes.old registers.now)) args.now) 0 unset)) }
+    ensures is { IfOk result (λ o. IfSome o (IsSymbolicNode (length nodes.new))) }
+    ensures value { IfOk result (λ o. option_map (symbolic_by nodes.new) o
+        ≡ known_symbolic function word (slice_index_or (map (symbolic_of p.now (registers_by nodes.old registers.now)) args.now) 0 unset)) }
 {
     match function {
         LibraryCall::PgIn => Ok(Some(read_input(nodes, p, args, registers)?)),
@@ -129,14 +129,14 @@ pub(crate) fn given(
     p: &Program,
     op: &Op,
     word: u64,
-    registers: &[Source],
-) -> Result<Option<Source>, AllocError>
+    registers: &[SymbolicNode],
+) -> Result<Option<SymbolicNode>, AllocError>
     requires straight { IsTrue (is_straight op.now) }
     requires cast { CastFits op.now }
-    requires sources { AreSources (length nodes.old) registers.now }
+    requires symbolic_nodes { AreSymbolicNodes (length nodes.old) registers.now }
     ensures grew { Grew nodes.old nodes.new }
-    ensures is { IfOk result (λ o. IfSome o (IsSource (length nodes.new))) }
-    ensures value { IfOk result (λ o. option_map (shadow_by nodes.new) o ≡ given_shadow p.now word op.now (registers_by nodes.old registers.now)) }
+    ensures is { IfOk result (λ o. IfSome o (IsSymbolicNode (length nodes.new))) }
+    ensures value { IfOk result (λ o. option_map (symbolic_by nodes.new) o ≡ given_symbolic p.now word op.now (registers_by nodes.old registers.now)) }
 {
     match op {
         Op::Alloca { .. } => Ok(Some(constant(nodes, word)?)),

@@ -1,4 +1,4 @@
-//! What is known along a reference run, as sources over one list of nodes.
+//! What is known along a reference run, as symbolic values over one list of nodes.
 #![tactic(auto)]
 
 mod call;
@@ -19,6 +19,6 @@ pub use edges::phi_operand;
 pub use entered::register_count;
 pub use given::operand;
 pub use step::OpStep;
-pub use thread::ThreadSources;
+pub use thread::SymbolicRegisters;
 pub use threads::after_create;
 pub use words::words_after;

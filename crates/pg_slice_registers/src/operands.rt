@@ -5,15 +5,15 @@ ghost use Rattle.pg_ir.specs.declared.value.Index.{Index};
 ghost use Rattle.pg_run_thread.specs.Compute.{computes};
 ghost use Rattle.pg_run_thread.specs.Operands.{operands_of};
 ghost use Rattle.pg_precondition.specs.Nodes.{NodeList};
-ghost use Rattle.pg_slice_rules.specs.Shadows.{Shadow, result_of, shadow_of};
-ghost use Rattle.pg_slice_rules.specs.Known.{operand_shadows, optional_shadow};
-ghost use Rattle.pg_slice_values.specs.Sources.{Grew, IsSource, shadow_by};
+ghost use Rattle.pg_slice_rules.specs.SymbolicValues.{Symbolic, result_of, symbolic_of};
+ghost use Rattle.pg_slice_rules.specs.Known.{operand_symbolics, optional_symbolic};
+ghost use Rattle.pg_slice_values.specs.SymbolicNodes.{Grew, IsSymbolicNode, symbolic_by};
 ghost use Rattle.pg_slice_values.specs.Forms.{CastFits};
-ghost use Rattle.pg_slice_registers.specs.Sourced.{AreSources, registers_by, result_by};
+ghost use Rattle.pg_slice_registers.specs.SymbolicRegisterNodes.{AreSymbolicNodes, registers_by, result_by};
 
 use pg_ir::{Index, Op, Program, Value};
 use pg_precondition::Nodes;
-use pg_slice_values::{Source, operation, unset, value};
+use pg_slice_values::{SymbolicNode, operation, unset, value};
 use std::alloc::{AllocError, Global};
 
 /// An operand that there may be, by the registers of its frame; one that is missing was never set.
@@ -21,12 +21,12 @@ pub(crate) fn optional(
     nodes: &mut Nodes,
     p: &Program,
     v: Option<Value>,
-    registers: &[Source],
-) -> Result<Source, AllocError>
-    requires { AreSources (length nodes.old) registers.now }
+    registers: &[SymbolicNode],
+) -> Result<SymbolicNode, AllocError>
+    requires { AreSymbolicNodes (length nodes.old) registers.now }
     ensures grew { Grew nodes.old nodes.new }
-    ensures is { IfOk result (IsSource (length nodes.new)) }
-    ensures value { IfOk result (λ s. shadow_by nodes.new s ≡ optional_shadow p.now (registers_by nodes.old registers.now) v) }
+    ensures is { IfOk result (IsSymbolicNode (length nodes.new)) }
+    ensures value { IfOk result (λ s. symbolic_by nodes.new s ≡ optional_symbolic p.now (registers_by nodes.old registers.now) v) }
 {
     match v {
         Some(v) => value(nodes, p, v, registers),
@@ -34,22 +34,22 @@ pub(crate) fn optional(
     }
 }
 
-/// Adds an operand that there may be to a list of sources.
+/// Adds an operand that there may be to a list of symbolic values.
 pub(crate) fn push_optional(
     nodes: &mut Nodes,
     p: &Program,
     v: Option<Value>,
-    registers: &[Source],
-    sources: &mut Vec<Source>,
+    registers: &[SymbolicNode],
+    symbolic_nodes: &mut Vec<SymbolicNode>,
 ) -> Result<(), AllocError>
-    requires registers { AreSources (length nodes.old) registers.now }
-    requires sources { AreSources (length nodes.old) sources.old.items }
+    requires registers { AreSymbolicNodes (length nodes.old) registers.now }
+    requires symbolic_nodes { AreSymbolicNodes (length nodes.old) symbolic_nodes.old.items }
     ensures grew { Grew nodes.old nodes.new }
-    ensures is { OnOk result (AreSources (length nodes.new) sources.new.items) }
-    ensures value { OnOk result (registers_by nodes.new sources.new.items ≡ registers_by nodes.old sources.old.items ++ optional_shadow p.now (registers_by nodes.old registers.now) v ∷ []) }
+    ensures is { OnOk result (AreSymbolicNodes (length nodes.new) symbolic_nodes.new.items) }
+    ensures value { OnOk result (registers_by nodes.new symbolic_nodes.new.items ≡ registers_by nodes.old symbolic_nodes.old.items ++ optional_symbolic p.now (registers_by nodes.old registers.now) v ∷ []) }
 {
     let s = optional(nodes, p, v, registers)?;
-    sources.push(s)?;
+    symbolic_nodes.push(s)?;
     Ok(())
 }
 
@@ -59,18 +59,18 @@ pub(crate) fn values(
     nodes: &mut Nodes,
     p: &Program,
     args: &[Value],
-    registers: &[Source],
-) -> Result<Vec<Source>, AllocError>
-    requires sources { AreSources (length nodes.old) registers.now }
+    registers: &[SymbolicNode],
+) -> Result<Vec<SymbolicNode>, AllocError>
+    requires symbolic_nodes { AreSymbolicNodes (length nodes.old) registers.now }
     ensures grew { Grew nodes.old nodes.new }
-    ensures is { IfOk result (λ v. AreSources (length nodes.new) v.items) }
-    ensures value { IfOk result (λ v. registers_by nodes.new v.items ≡ map (shadow_of p.now (registers_by nodes.old registers.now)) args.now) }
+    ensures is { IfOk result (λ v. AreSymbolicNodes (length nodes.new) v.items) }
+    ensures value { IfOk result (λ v. registers_by nodes.new v.items ≡ map (symbolic_of p.now (registers_by nodes.old registers.now)) args.now) }
 {
-    let mut sources = Vec::new(alloc);
+    let mut symbolic_nodes = Vec::new(alloc);
     for arg in args {
-        push_optional(nodes, p, Some(*arg), registers, &mut sources)?;
+        push_optional(nodes, p, Some(*arg), registers, &mut symbolic_nodes)?;
     }
-    Ok(sources)
+    Ok(symbolic_nodes)
 }
 
 /// The operands of a `getelementptr`: its base, and its indices.
@@ -115,23 +115,23 @@ fn operands(
     nodes: &mut Nodes,
     p: &Program,
     op: &Op,
-    registers: &[Source],
-) -> Result<Vec<Source>, AllocError>
+    registers: &[SymbolicNode],
+) -> Result<Vec<SymbolicNode>, AllocError>
     requires computes { IsTrue (computes op.now) }
-    requires sources { AreSources (length nodes.old) registers.now }
+    requires symbolic_nodes { AreSymbolicNodes (length nodes.old) registers.now }
     ensures grew { Grew nodes.old nodes.new }
-    ensures is { IfOk result (λ v. AreSources (length nodes.new) v.items) }
-    ensures value { IfOk result (λ v. registers_by nodes.new v.items ≡ operand_shadows p.now (registers_by nodes.old registers.now) op.now) }
+    ensures is { IfOk result (λ v. AreSymbolicNodes (length nodes.new) v.items) }
+    ensures value { IfOk result (λ v. registers_by nodes.new v.items ≡ operand_symbolics p.now (registers_by nodes.old registers.now) op.now) }
 {
     let list = operand_list(alloc, op)?;
     values(alloc, nodes, p, list.as_slice(), registers)
 }
 
 /// A result, which has the bounds of its base where it is a moved pointer.
-fn with_bounds(op: &Op, operands: &[Source], s: Source) -> Source
-    ensures value { (ns : NodeList) (ss : List Shadow) → shadow_by ns s ≡ result_of op.now ss
-        → registers_by ns operands.now ≡ ss → length operands.now ≡ length (operands_of op.now) → shadow_by ns result ≡ result_by op.now ss }
-    ensures is { (n : ℕ) → AreSources n operands.now → IsSource n s → IsSource n result }
+fn with_bounds(op: &Op, operands: &[SymbolicNode], s: SymbolicNode) -> SymbolicNode
+    ensures value { (ns : NodeList) (ss : List Symbolic) → symbolic_by ns s ≡ result_of op.now ss
+        → registers_by ns operands.now ≡ ss → length operands.now ≡ length (operands_of op.now) → symbolic_by ns result ≡ result_by op.now ss }
+    ensures is { (n : ℕ) → AreSymbolicNodes n operands.now → IsSymbolicNode n s → IsSymbolicNode n result }
 {
     match op {
         Op::Gep { .. } => match operands.first() {
@@ -143,14 +143,14 @@ fn with_bounds(op: &Op, operands: &[Source], s: Source) -> Source
 }
 
 /// The result of an operation that only computes, by its operands.
-fn result(nodes: &mut Nodes, op: &Op, operands: &[Source]) -> Result<Source, AllocError>
+fn result(nodes: &mut Nodes, op: &Op, operands: &[SymbolicNode]) -> Result<SymbolicNode, AllocError>
     requires computes { IsTrue (computes op.now) }
     requires cast { CastFits op.now }
     requires count { length operands.now ≡ length (operands_of op.now) }
-    requires sources { AreSources (length nodes.old) operands.now }
+    requires symbolic_nodes { AreSymbolicNodes (length nodes.old) operands.now }
     ensures grew { Grew nodes.old nodes.new }
-    ensures is { IfOk result (IsSource (length nodes.new)) }
-    ensures value { IfOk result (λ s. shadow_by nodes.new s ≡ result_by op.now (registers_by nodes.old operands.now)) }
+    ensures is { IfOk result (IsSymbolicNode (length nodes.new)) }
+    ensures value { IfOk result (λ s. symbolic_by nodes.new s ≡ result_by op.now (registers_by nodes.old operands.now)) }
 {
     let s = operation(nodes, op, operands)?;
     Ok(with_bounds(op, operands, s))
@@ -162,14 +162,14 @@ pub(crate) fn computed(
     nodes: &mut Nodes,
     p: &Program,
     op: &Op,
-    registers: &[Source],
-) -> Result<Source, AllocError>
+    registers: &[SymbolicNode],
+) -> Result<SymbolicNode, AllocError>
     requires computes { IsTrue (computes op.now) }
     requires cast { CastFits op.now }
-    requires sources { AreSources (length nodes.old) registers.now }
+    requires symbolic_nodes { AreSymbolicNodes (length nodes.old) registers.now }
     ensures grew { Grew nodes.old nodes.new }
-    ensures is { IfOk result (IsSource (length nodes.new)) }
-    ensures value { IfOk result (λ s. shadow_by nodes.new s ≡ result_by op.now (operand_shadows p.now (registers_by nodes.old registers.now) op.now)) }
+    ensures is { IfOk result (IsSymbolicNode (length nodes.new)) }
+    ensures value { IfOk result (λ s. symbolic_by nodes.new s ≡ result_by op.now (operand_symbolics p.now (registers_by nodes.old registers.now) op.now)) }
 {
     let operands = operands(alloc, nodes, p, op, registers)?;
     result(nodes, op, operands.as_slice())

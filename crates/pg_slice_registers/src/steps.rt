@@ -3,31 +3,31 @@
 use crate::given::given;
 use crate::operands::optional;
 use crate::step::OpStep;
-use crate::thread::ThreadSources;
+use crate::thread::SymbolicRegisters;
 use pg_ir::{Instr, Op, Program, Value};
 use pg_precondition::Nodes;
 use pg_slice_rules::Decision;
-use pg_slice_values::Source;
+use pg_slice_values::SymbolicNode;
 use std::alloc::{AllocError, Global};
 
-impl ThreadSources {
+impl SymbolicRegisters {
     ghost use Rattle.std.specs.Prelude.{◌≡◌, ◌<◌, ℕ, Option, IsTrue, length, IfSome, OnOk, OnErr};
     ghost use Rattle.std.specs.Option.{option_map};
     ghost use Rattle.pg_precondition.specs.Nodes.{NodeList};
     ghost use Rattle.pg_slice_rules.specs.Moments.{Moment};
     ghost use Rattle.pg_slice_rules.specs.Freeable.{FreeRegion};
-    ghost use Rattle.pg_slice_rules.specs.Known.{optional_shadow, set_shadow, top_of, under_top, with_top};
+    ghost use Rattle.pg_slice_rules.specs.Known.{optional_symbolic, set_symbolic, top_of, under_top, with_top};
     ghost use Rattle.pg_slice_rules.specs.Known as along;
-    ghost use Rattle.pg_slice_values.specs.Sources.{Grew, IsSource, shadow_by};
+    ghost use Rattle.pg_slice_values.specs.SymbolicNodes.{Grew, IsSymbolicNode, symbolic_by};
     ghost use Rattle.pg_slice_values.specs.Forms.{CastFits};
-    ghost use Rattle.pg_slice_registers.specs.Sourced.{AreCalls, calls_by};
-    ghost use Rattle.pg_slice_registers.specs.Steps.{IsStepAt, branched, given_shadow, is_plain, is_straight, set_given};
+    ghost use Rattle.pg_slice_registers.specs.SymbolicRegisterNodes.{AreCalls, calls_by};
+    ghost use Rattle.pg_slice_registers.specs.Steps.{IsStepAt, branched, given_symbolic, is_plain, is_straight, set_given};
 
     /// Gives a register of the present call what an instruction gives, if there is a register and something is given.
     #[tactic(auto, using(crate::proofs::DefinedSteps::nothing_given))]
-    fn set_given(&mut self, target: Option<u32>, s: Option<Source>)
-        ensures value { (ns : NodeList) → calls_by ns self.new ≡ with_top (set_given target (option_map (shadow_by ns) s)) (calls_by ns self.old) }
-        ensures is { (n : ℕ) → AreCalls n self.old → IfSome s (IsSource n) → AreCalls n self.new }
+    fn set_given(&mut self, target: Option<u32>, s: Option<SymbolicNode>)
+        ensures value { (ns : NodeList) → calls_by ns self.new ≡ with_top (set_given target (option_map (symbolic_by ns) s)) (calls_by ns self.old) }
+        ensures is { (n : ℕ) → AreCalls n self.old → IfSome s (IsSymbolicNode n) → AreCalls n self.new }
     {
         if let Some(s) = s {
             self.set(target, s);
@@ -45,11 +45,11 @@ impl ThreadSources {
     ) -> Result<(), AllocError>
         requires straight { IsTrue (is_straight x.now.op) }
         requires cast { CastFits x.now.op }
-        requires sources { AreCalls (length nodes.old) self.old }
+        requires symbolic_nodes { AreCalls (length nodes.old) self.old }
         ensures grew { Grew nodes.old nodes.new }
         ensures is { OnOk result (AreCalls (length nodes.new) self.new) }
         ensures same { OnErr result (self.new ≡ self.old) }
-        ensures value { OnOk result (calls_by nodes.new self.new ≡ with_top (λ rs. set_given x.now.result (given_shadow p.now word x.now.op rs) rs) (calls_by nodes.old self.old)) }
+        ensures value { OnOk result (calls_by nodes.new self.new ≡ with_top (λ rs. set_given x.now.result (given_symbolic p.now word x.now.op rs) rs) (calls_by nodes.old self.old)) }
     {
         let s = given(alloc, nodes, p, &x.op, word, self.registers())?;
         self.set_given(x.result, s);
@@ -69,7 +69,7 @@ impl ThreadSources {
         sets: &[bool],
     ) -> Result<(), AllocError>
         requires block { IfSome step.edge (λ b. b < length p.now.blocks) }
-        requires sources { AreCalls (length nodes.old) self.old }
+        requires symbolic_nodes { AreCalls (length nodes.old) self.old }
         ensures grew { Grew nodes.old nodes.new }
         ensures is { OnOk result (AreCalls (length nodes.new) self.new) }
         ensures same { OnErr result (self.new ≡ self.old) }
@@ -91,12 +91,12 @@ impl ThreadSources {
         v: Option<Value>,
         target: Option<u32>,
     ) -> Result<(), AllocError>
-        requires sources { AreCalls (length nodes.old) self.old }
+        requires symbolic_nodes { AreCalls (length nodes.old) self.old }
         ensures grew { Grew nodes.old nodes.new }
         ensures is { OnOk result (AreCalls (length nodes.new) self.new) }
         ensures same { OnErr result (self.new ≡ self.old) }
         ensures value { OnOk result (calls_by nodes.new self.new
-            ≡ with_top (set_shadow target (optional_shadow p.now (top_of (calls_by nodes.old self.old)) v)) (under_top (calls_by nodes.old self.old))) }
+            ≡ with_top (set_symbolic target (optional_symbolic p.now (top_of (calls_by nodes.old self.old)) v)) (under_top (calls_by nodes.old self.old))) }
     {
         let s = optional(nodes, p, v, self.registers())?;
         self.leave(target, s);
@@ -121,7 +121,7 @@ impl ThreadSources {
         requires plain { IsTrue (is_plain x.now.op) }
         requires cast { CastFits x.now.op }
         requires block { IfSome step.edge (λ b. b < length p.now.blocks) }
-        requires sources { AreCalls (length nodes.old) self.old }
+        requires symbolic_nodes { AreCalls (length nodes.old) self.old }
         ensures grew { Grew nodes.old nodes.new }
         ensures is { OnOk result (AreCalls (length nodes.new) self.new) }
         ensures same { OnErr result (self.new ≡ self.old) }

@@ -5,35 +5,35 @@ use crate::entered::{entered, fresh};
 use pg_ir::{BlockNo, Program, Value};
 use pg_precondition::Nodes;
 use pg_slice_rules::Decision;
-use pg_slice_values::Source;
+use pg_slice_values::SymbolicNode;
 use std::alloc::{AllocError, Global};
 use std::marker::Model;
 use std::mem;
 
 /// What is known of the registers of a thread's calls, the present one first.
 #[derive(Debug, Drop)]
-pub struct ThreadSources {
+pub struct SymbolicRegisters {
     present: Registers,
     callers: Vec<Registers>,
     ended: bool,
 }
 
-impl Model for ThreadSources {
-    ghost use Rattle.pg_slice_registers.specs.Sourced.{CallList, calls_of};
+impl Model for SymbolicRegisters {
+    ghost use Rattle.pg_slice_registers.specs.SymbolicRegisterNodes.{CallList, calls_of};
 
     ghost Value = { CallList };
 
     ghost view = { λ s. calls_of s.present s.callers.items s.ended };
 }
 
-impl ThreadSources {
+impl SymbolicRegisters {
     ghost use Rattle.std.specs.Prelude.{◌≡◌, ◌<◌, ◌∷◌, [], ℕ, length, map, IfOk, IfSome, OnOk, OnErr};
     ghost use Rattle.pg_precondition.specs.Nodes.{NodeList};
-    ghost use Rattle.pg_slice_rules.specs.Shadows.{shadow_of};
-    ghost use Rattle.pg_slice_rules.specs.Known.{forgotten_from, fresh_registers, set_shadow, top_of, under_top, with_top};
+    ghost use Rattle.pg_slice_rules.specs.SymbolicValues.{symbolic_of};
+    ghost use Rattle.pg_slice_rules.specs.Known.{forgotten_from, fresh_registers, set_symbolic, top_of, under_top, with_top};
     ghost use Rattle.pg_slice_rules.specs.Known as known;
-    ghost use Rattle.pg_slice_values.specs.Sources.{Grew, IsSource, shadow_by};
-    ghost use Rattle.pg_slice_registers.specs.Sourced.{AreCalls, calls_by, marked, top_sources, under_sources};
+    ghost use Rattle.pg_slice_values.specs.SymbolicNodes.{Grew, IsSymbolicNode, symbolic_by};
+    ghost use Rattle.pg_slice_registers.specs.SymbolicRegisterNodes.{AreCalls, calls_by, marked, top_symbolic_nodes, under_symbolic_nodes};
 
     /// A thread that will begin with a function, none of whose registers was set.
     ///
@@ -45,13 +45,13 @@ impl ThreadSources {
         nodes: &mut Nodes,
         p: &Program,
         f: u32,
-    ) -> Result<ThreadSources, AllocError>
+    ) -> Result<SymbolicRegisters, AllocError>
         ensures grew { Grew nodes.old nodes.new }
         ensures is { IfOk result (AreCalls (length nodes.new)) }
         ensures value { IfOk result (λ t. calls_by nodes.new t ≡ fresh_registers p.now f ∷ []) }
     {
         let registers = fresh(alloc, nodes, p, f)?;
-        Ok(ThreadSources {
+        Ok(SymbolicRegisters {
             present: Registers::from_vec(registers),
             callers: Vec::new(alloc),
             ended: false,
@@ -59,8 +59,8 @@ impl ThreadSources {
     }
 
     /// The registers of the present call; none where the thread has ended.
-    pub fn registers(&self) -> &[Source]
-        ensures { result.now ≡ top_sources self.now }
+    pub fn registers(&self) -> &[SymbolicNode]
+        ensures { result.now ≡ top_symbolic_nodes self.now }
     {
         if self.ended {
             &[]
@@ -70,9 +70,9 @@ impl ThreadSources {
     }
 
     /// Sets a register of the present call, if there is one to set.
-    pub(crate) fn set(&mut self, target: Option<u32>, s: Source)
-        ensures value { (ns : NodeList) → calls_by ns self.new ≡ with_top (set_shadow target (shadow_by ns s)) (calls_by ns self.old) }
-        ensures is { (n : ℕ) → AreCalls n self.old → IsSource n s → AreCalls n self.new }
+    pub(crate) fn set(&mut self, target: Option<u32>, s: SymbolicNode)
+        ensures value { (ns : NodeList) → calls_by ns self.new ≡ with_top (set_symbolic target (symbolic_by ns s)) (calls_by ns self.old) }
+        ensures is { (n : ℕ) → AreCalls n self.old → IsSymbolicNode n s → AreCalls n self.new }
     {
         self.present.set(target, s);
     }
@@ -96,7 +96,7 @@ impl ThreadSources {
         edge: Option<u32>,
     ) -> Result<(), AllocError>
         requires block { IfSome edge (λ b. b < length p.now.blocks) }
-        requires sources { AreCalls (length nodes.old) self.old }
+        requires symbolic_nodes { AreCalls (length nodes.old) self.old }
         ensures grew { Grew nodes.old nodes.new }
         ensures is { OnOk result (AreCalls (length nodes.new) self.new) }
         ensures same { OnErr result (self.new ≡ self.old) }
@@ -110,7 +110,7 @@ impl ThreadSources {
     }
 
     /// Begins a call with these registers, the thread's first where it has none.
-    fn push(&mut self, registers: Vec<Source>) -> Result<(), AllocError>
+    fn push(&mut self, registers: Vec<SymbolicNode>) -> Result<(), AllocError>
         ensures pushed { OnOk result (self.new ≡ registers.items ∷ self.old) }
         ensures same { OnErr result (self.new ≡ self.old) }
     {
@@ -135,11 +135,11 @@ impl ThreadSources {
         g: u32,
         args: &[Value],
     ) -> Result<(), AllocError>
-        requires sources { AreCalls (length nodes.old) self.old }
+        requires symbolic_nodes { AreCalls (length nodes.old) self.old }
         ensures grew { Grew nodes.old nodes.new }
         ensures is { OnOk result (AreCalls (length nodes.new) self.new) }
         ensures same { OnErr result (self.new ≡ self.old) }
-        ensures value { OnOk result (calls_by nodes.new self.new ≡ known.entered p.now g (map (shadow_of p.now (top_of (calls_by nodes.old self.old))) args.now) ∷ calls_by nodes.old self.old) }
+        ensures value { OnOk result (calls_by nodes.new self.new ≡ known.entered p.now g (map (symbolic_of p.now (top_of (calls_by nodes.old self.old))) args.now) ∷ calls_by nodes.old self.old) }
     {
         let registers = entered(alloc, nodes, p, g, args, self.registers())?;
         self.push(registers)
@@ -147,7 +147,7 @@ impl ThreadSources {
 
     /// Ends the present call.
     fn pop(&mut self)
-        ensures { self.new ≡ under_sources self.old }
+        ensures { self.new ≡ under_symbolic_nodes self.old }
     {
         match self.callers.pop() {
             Some(caller) => self.present = caller,
@@ -156,9 +156,9 @@ impl ThreadSources {
     }
 
     /// Ends the present call, and sets a register of its caller, if there is one to set.
-    pub(crate) fn leave(&mut self, target: Option<u32>, s: Source)
-        ensures value { (ns : NodeList) → calls_by ns self.new ≡ with_top (set_shadow target (shadow_by ns s)) (under_top (calls_by ns self.old)) }
-        ensures is { (n : ℕ) → AreCalls n self.old → IsSource n s → AreCalls n self.new }
+    pub(crate) fn leave(&mut self, target: Option<u32>, s: SymbolicNode)
+        ensures value { (ns : NodeList) → calls_by ns self.new ≡ with_top (set_symbolic target (symbolic_by ns s)) (under_top (calls_by ns self.old)) }
+        ensures is { (n : ℕ) → AreCalls n self.old → IsSymbolicNode n s → AreCalls n self.new }
     {
         self.pop();
         self.set(target, s);

@@ -4,10 +4,10 @@ ghost use Rattle.std.specs.Prelude.{◌≡◌, ◌<◌, ◌++◌, ◌∷◌, [],
 ghost use Rattle.pg_run_trace.specs.declared.turn.TurnKind.TheVariants.{Create};
 ghost use Rattle.pg_slice_rules.specs.Extents.{Extent};
 ghost use Rattle.pg_slice_rules.specs.Known as along;
-ghost use Rattle.pg_slice_values.specs.Sources.{Grew};
+ghost use Rattle.pg_slice_values.specs.SymbolicNodes.{Grew};
 ghost use Rattle.pg_slice_registers.specs.Threads.{AreThreads, threads_by};
 
-use crate::thread::ThreadSources;
+use crate::thread::SymbolicRegisters;
 use pg_ir::Program;
 use pg_precondition::Nodes;
 use pg_run_trace::{Event, TurnKind};
@@ -19,16 +19,16 @@ fn push_thread(
     nodes: &mut Nodes,
     p: &Program,
     f: u32,
-    threads: &mut Vec<ThreadSources>,
+    threads: &mut Vec<SymbolicRegisters>,
 ) -> Result<(), AllocError>
-    requires sources { AreThreads (length nodes.old) threads.old.items }
+    requires symbolic_nodes { AreThreads (length nodes.old) threads.old.items }
     ensures grew { Grew nodes.old nodes.new }
     ensures is { OnOk result (AreThreads (length nodes.new) threads.new.items) }
     ensures same { OnErr result (threads.new.items ≡ threads.old.items) }
     ensures value { (extents : List (List Extent)) → length extents ≡ length threads.old.items
         → OnOk result (threads_by nodes.new threads.new.items (extents ++ [] ∷ []) ≡ threads_by nodes.old threads.old.items extents ++ along.fresh_thread p.now f ∷ []) }
 {
-    let thread = ThreadSources::new(alloc, nodes, p, f)?;
+    let thread = SymbolicRegisters::new(alloc, nodes, p, f)?;
     threads.push(thread)?;
     Ok(())
 }
@@ -43,11 +43,11 @@ pub fn after_create(
     nodes: &mut Nodes,
     p: &Program,
     e: Event,
-    threads: &mut Vec<ThreadSources>,
+    threads: &mut Vec<SymbolicRegisters>,
 ) -> Result<(), AllocError>
     requires kind { e.kind ≡ Create }
     requires function { slice_index e.operands 2 < length p.now.functions }
-    requires sources { AreThreads (length nodes.old) threads.old.items }
+    requires symbolic_nodes { AreThreads (length nodes.old) threads.old.items }
     ensures grew { Grew nodes.old nodes.new }
     ensures is { OnOk result (AreThreads (length nodes.new) threads.new.items) }
     ensures same { OnErr result (threads.new.items ≡ threads.old.items) }

@@ -1,17 +1,17 @@
 //! What returns and exits hand on.
 
 ghost use Rattle.std.specs.Prelude.{◌≡◌, length, slice_set, IfOk, OnOk, OnErr};
-ghost use Rattle.pg_slice_rules.specs.Known.{exit_shadow, returned_shadow};
+ghost use Rattle.pg_slice_rules.specs.Known.{exit_symbolic, returned_symbolic};
 ghost use Rattle.pg_slice_rules.specs.Known as along;
-ghost use Rattle.pg_slice_values.specs.Sources.{Grew, IsSource, shadow_by};
-ghost use Rattle.pg_slice_registers.specs.Sourced.{AreSources, registers_by};
+ghost use Rattle.pg_slice_values.specs.SymbolicNodes.{Grew, IsSymbolicNode, symbolic_by};
+ghost use Rattle.pg_slice_registers.specs.SymbolicRegisterNodes.{AreSymbolicNodes, registers_by};
 ghost use Rattle.pg_slice_registers.specs.Events.{HasOperands, IsExit};
 
 use crate::given::operand;
 use pg_ir::{Op, Program, Value};
 use pg_precondition::Nodes;
 use pg_run_trace::TurnKind;
-use pg_slice_values::{Source, constant, value};
+use pg_slice_values::{SymbolicNode, constant, value};
 use std::alloc::AllocError;
 
 /// The value that a return hands on, 0 where it has none.
@@ -19,12 +19,12 @@ fn returned(
     nodes: &mut Nodes,
     p: &Program,
     v: Option<Value>,
-    registers: &[Source],
-) -> Result<Source, AllocError>
-    requires sources { AreSources (length nodes.old) registers.now }
+    registers: &[SymbolicNode],
+) -> Result<SymbolicNode, AllocError>
+    requires symbolic_nodes { AreSymbolicNodes (length nodes.old) registers.now }
     ensures grew { Grew nodes.old nodes.new }
-    ensures is { IfOk result (IsSource (length nodes.new)) }
-    ensures value { IfOk result (λ s. shadow_by nodes.new s ≡ returned_shadow p.now (registers_by nodes.old registers.now) v) }
+    ensures is { IfOk result (IsSymbolicNode (length nodes.new)) }
+    ensures value { IfOk result (λ s. symbolic_by nodes.new s ≡ returned_symbolic p.now (registers_by nodes.old registers.now) v) }
 {
     match v {
         Some(v) => value(nodes, p, v, registers),
@@ -33,18 +33,18 @@ fn returned(
 }
 
 /// What an exit hands on; the `pthread_exit` of main hands on 0.
-fn exit_source(
+fn exit_symbolic_node(
     nodes: &mut Nodes,
     p: &Program,
     thread: usize,
     op: &Op,
-    registers: &[Source],
-) -> Result<Source, AllocError>
+    registers: &[SymbolicNode],
+) -> Result<SymbolicNode, AllocError>
     requires call { IsExit op.now }
-    requires sources { AreSources (length nodes.old) registers.now }
+    requires symbolic_nodes { AreSymbolicNodes (length nodes.old) registers.now }
     ensures grew { Grew nodes.old nodes.new }
-    ensures is { IfOk result (IsSource (length nodes.new)) }
-    ensures value { IfOk result (λ s. shadow_by nodes.new s ≡ exit_shadow p.now thread (registers_by nodes.old registers.now) op.now) }
+    ensures is { IfOk result (IsSymbolicNode (length nodes.new)) }
+    ensures value { IfOk result (λ s. symbolic_by nodes.new s ≡ exit_symbolic p.now thread (registers_by nodes.old registers.now) op.now) }
 {
     match op {
         Op::Ret { value } => returned(nodes, p, *value, registers),
@@ -61,7 +61,7 @@ fn exit_source(
 
 /// Puts a word in its place; past the end there is none.
 #[tactic(auto, using(crate::proofs::SetRegisters::set_past))]
-fn put_word(words: &mut Vec<Source>, thread: usize, s: Source)
+fn put_word(words: &mut Vec<SymbolicNode>, thread: usize, s: SymbolicNode)
     ensures { words.new.items ≡ slice_set words.old.items thread s }
 {
     if thread < words.len() {
@@ -81,21 +81,21 @@ pub fn words_after(
     thread: usize,
     kind: TurnKind,
     op: &Op,
-    registers: &[Source],
-    words: &mut Vec<Source>,
+    registers: &[SymbolicNode],
+    words: &mut Vec<SymbolicNode>,
 ) -> Result<(), AllocError>
     requires call { HasOperands kind op.now }
-    requires registers { AreSources (length nodes.old) registers.now }
-    requires words { AreSources (length nodes.old) words.old.items }
+    requires registers { AreSymbolicNodes (length nodes.old) registers.now }
+    requires words { AreSymbolicNodes (length nodes.old) words.old.items }
     ensures grew { Grew nodes.old nodes.new }
-    ensures is { OnOk result (AreSources (length nodes.new) words.new.items) }
+    ensures is { OnOk result (AreSymbolicNodes (length nodes.new) words.new.items) }
     ensures same { OnErr result (words.new.items ≡ words.old.items) }
     ensures value { OnOk result (registers_by nodes.new words.new.items
         ≡ along.words_after p.now thread kind (registers_by nodes.old registers.now) op.now (registers_by nodes.old words.old.items)) }
 {
     match kind {
         TurnKind::Exit => {
-            let s = exit_source(nodes, p, thread, op, registers)?;
+            let s = exit_symbolic_node(nodes, p, thread, op, registers)?;
             put_word(words, thread, s);
             Ok(())
         }

@@ -1,7 +1,7 @@
 pub mod Moments
 pub mod ExampleMoments
 pub mod Freeable
-pub mod Shadows
+pub mod SymbolicValues
 pub mod Extents
 pub mod Known
 pub mod Rules

@@ -1,4 +1,4 @@
--- The reference run: its steps, and of the state before each what its source rests on.
+-- The reference run: its steps, and of the state before each what its symbolic value rests on.
 use Rattle.std.specs.Prelude.{ℕ, ℤ, List, [], ◌∷◌, Option, Some, None, slice_get}
 use Rattle.pg_num.specs.Places.{ByteRange}
 use Rattle.pg_ir.specs.declared.ids.InstrId.{InstrId}

@@ -29,14 +29,14 @@ use Rattle.pg_slice_rules.specs.declared.decision.Decision.{Decision}
 use Rattle.pg_slice_rules.specs.declared.decision.Decision.TheVariants.{Pinned, Exact}
 use Rattle.pg_slice_rules.specs.Moments.{instr_in, thread_in}
 use Rattle.pg_slice_rules.specs.Freeable.{FreeAccess, FreeRegion, bounds_of}
-use Rattle.pg_slice_rules.specs.Shadows.{OnInput, Shadow, Known, Bounded, Unknown, blames, bounds_blames, bounds_word, loaded, unset, valued}
+use Rattle.pg_slice_rules.specs.SymbolicValues.{OnInput, Symbolic, Known, Bounded, Unknown, blames, bounds_blames, bounds_word, loaded, unset, valued}
 use Rattle.pg_slice_rules.specs.Known.{Reference, Taken, Seen, is_branch, operand_at, registers_of}
 
 -- ---- what is asked of one value: that it is known, or that its bounds are, and what an input must give of it
 
 pub data Need : Type 0 where
-  Value : Shadow → List Test → Need
-  Bounds : Shadow → Test → Need
+  Value : Symbolic → List Test → Need
+  Bounds : Symbolic → Test → Need
 
 -- a number on an input, and what it must be
 pub record Condition : Type 0 where
@@ -55,7 +55,7 @@ abbrev pub if_some : Option OnInput → List Test → List Condition
 if_some None ts = []
 if_some (Some f) ts = conditions_with f ts
 
-abbrev pub value_of : Shadow → Option OnInput
+abbrev pub value_of : Symbolic → Option OnInput
 value_of (Known f g) = Some f
 value_of s = None
 
@@ -75,10 +75,10 @@ same_bounds word = test.Bounds (pointer_of word).start (pointer_of word).length
 abbrev pub kind_in : Seen → StepKind
 kind_in x = x.moment.did.did.kind
 
-abbrev pub registers_before : Seen → List Shadow
+abbrev pub registers_before : Seen → List Symbolic
 registers_before x = registers_of x.before (thread_in x.moment)
 
-abbrev pub operand_of : NumberedProgram → Seen → Instr → ℕ → Shadow
+abbrev pub operand_of : NumberedProgram → Seen → Instr → ℕ → Symbolic
 operand_of p x i k = operand_at p (registers_before x) i.op k
 
 abbrev pub has_region : Option FreeRegion → Bool
@@ -182,24 +182,24 @@ abbrev pub access_needs_in : NumberedProgram → Seen → Option Instr → List 
 access_needs_in p x None = []
 access_needs_in p x (Some i) = if x.live then access_needs_by p x i (kind_in x) else []
 
-abbrev pub root_shadow : NumberedProgram → List Shadow → Root → Shadow
-root_shadow p rs (root.Register r) = slice_index_or rs r unset
-root_shadow p rs r = valued (λ input. root_value p (λ k. None) r)
+abbrev pub root_symbolic : NumberedProgram → List Symbolic → Root → Symbolic
+root_symbolic p rs (root.Register r) = slice_index_or rs r unset
+root_symbolic p rs r = valued (λ input. root_value p (λ k. None) r)
 
 -- a word that is moved to a load's address
-abbrev pub moved_shadow : ℕ → Shadow → Shadow
-moved_shadow k (Known f g) = Known (λ input. with_one (f input) (λ word. Some (moved_by word (pos k)))) g
-moved_shadow k (Bounded f x) = Bounded f x
-moved_shadow k (Unknown x) = Unknown x
+abbrev pub moved_symbolic : ℕ → Symbolic → Symbolic
+moved_symbolic k (Known f g) = Known (λ input. with_one (f input) (λ word. Some (moved_by word (pos k)))) g
+moved_symbolic k (Bounded f x) = Bounded f x
+moved_symbolic k (Unknown x) = Unknown x
 
 -- along the loads of a path: each address is known, and so are the bounds at the end
-abbrev pub path_needs : (ℕ → Shadow) → Shadow → List ℕ → List ℕ → List ByteRange → ℕ → List Need
+abbrev pub path_needs : (ℕ → Symbolic) → Symbolic → List ℕ → List ℕ → List ByteRange → ℕ → List Need
 path_needs bytes s (k ∷ offsets) (word ∷ words) (cell ∷ cells) last =
-    Value (moved_shadow k s) (test.Eq (moved_by word (pos k)) ∷ []) ∷ path_needs bytes (loaded bytes cell.start 8) offsets words cells last
+    Value (moved_symbolic k s) (test.Eq (moved_by word (pos k)) ∷ []) ∷ path_needs bytes (loaded bytes cell.start 8) offsets words cells last
 path_needs bytes s offsets words cells last = Bounds s (same_bounds last) ∷ []
 
 abbrev pub free_access_needs : NumberedProgram → Seen → FreeAccess → List Need
-free_access_needs p x a = path_needs x.before.bytes (root_shadow p (registers_before x) a.path.root) (offsets_of a.path.loads) a.at.pointers a.at.cells a.at.last
+free_access_needs p x a = path_needs x.before.bytes (root_symbolic p (registers_before x) a.path.root) (offsets_of a.path.loads) a.at.pointers a.at.cells a.at.last
 
 abbrev pub region_needs_in : NumberedProgram → Seen → Option FreeRegion → List Need
 region_needs_in p x None = []

@@ -4,10 +4,10 @@ use mathlib.Core.Path.{fun_ext}
 use Rattle.pg_precondition.specs.declared.node.Node.{Node}
 use Rattle.pg_precondition.specs.Nodes.{NodeList}
 use Rattle.pg_precondition.specs.Values.{numbers_behind, numbers_of, node_number, number_of}
-use Rattle.pg_slice_rules.specs.Shadows.{Known, Bounded}
-use Rattle.pg_slice_values.specs.declared.source.Source.{Source}
-use Rattle.pg_slice_values.specs.declared.source.Source.TheVariants as source
-use Rattle.pg_slice_values.specs.Sources.{Grew, IsSource, number_by, shadow_by}
+use Rattle.pg_slice_rules.specs.SymbolicValues.{Known, Bounded}
+use Rattle.pg_slice_values.specs.declared.symbolic_node.SymbolicNode.{SymbolicNode}
+use Rattle.pg_slice_values.specs.declared.symbolic_node.SymbolicNode.TheVariants as symbolic_node
+use Rattle.pg_slice_values.specs.SymbolicNodes.{Grew, IsSymbolicNode, number_by, symbolic_by}
 
 append_none : (xs : NodeList) → xs ++ [] ≡ xs
 append_none [] = refl
@@ -85,15 +85,15 @@ number_kept old new k input g h =
     ∙ ap (λ (xs : List (Option ℕ)). number_of xs k) (behind_append input [] old g.behind)
     ∙ behind_keeps input (numbers_of input old) g.behind k (let l = as_many input old in omega arith)
 
--- ---- sources
+-- ---- symbolic values
 
-pub source_more : (m n : ℕ) (s : Source) → m ≤ n → IsSource m s → IsSource n s
-source_more m n (source.Known k j) h i = let a : k < m = i.0 in let b : j < m = i.1 in (omega (arith, h, a), omega (arith, h, b))
-source_more m n (source.Bounded k x) h i = omega arith
-source_more m n (source.Unknown x) h i = tt
+pub symbolic_node_more : (m n : ℕ) (s : SymbolicNode) → m ≤ n → IsSymbolicNode m s → IsSymbolicNode n s
+symbolic_node_more m n (symbolic_node.Known k j) h i = let a : k < m = i.0 in let b : j < m = i.1 in (omega (arith, h, a), omega (arith, h, b))
+symbolic_node_more m n (symbolic_node.Bounded k x) h i = omega arith
+symbolic_node_more m n (symbolic_node.Unknown x) h i = tt
 
-pub shadow_kept : (old new : NodeList) (s : Source) → Grew old new → IsSource (length old) s → shadow_by new s ≡ shadow_by old s
-shadow_kept old new (source.Known k j) g h =
+pub symbolic_kept : (old new : NodeList) (s : SymbolicNode) → Grew old new → IsSymbolicNode (length old) s → symbolic_by new s ≡ symbolic_by old s
+symbolic_kept old new (symbolic_node.Known k j) g h =
     ap (λ f. Known f (number_by new j)) (fun_ext (λ input. number_kept old new k input g h.0)) ∙ ap (λ f. Known (number_by old k) f) (fun_ext (λ input. number_kept old new j input g h.1))
-shadow_kept old new (source.Bounded k x) g h = ap (λ f. Bounded f x) (fun_ext (λ input. number_kept old new k input g h))
-shadow_kept old new (source.Unknown x) g h = refl
+symbolic_kept old new (symbolic_node.Bounded k x) g h = ap (λ f. Bounded f x) (fun_ext (λ input. number_kept old new k input g h))
+symbolic_kept old new (symbolic_node.Unknown x) g h = refl

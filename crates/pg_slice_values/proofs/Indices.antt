@@ -13,9 +13,9 @@ use Rattle.pg_precondition.specs.Values.{number_of}
 use Rattle.pg_run_thread.specs.Compute.{index_bytes, moved_along}
 use Rattle.pg_run_thread.specs.EdgeStep.{is_set}
 use Rattle.pg_run_thread.specs.Operands.{given, operands_of}
-use Rattle.pg_slice_rules.specs.Shadows.{OnInput, applied, index_narrowed, narrowed, result_of, valued}
-use Rattle.pg_slice_values.specs.declared.source.Source.{Source}
-use Rattle.pg_slice_values.specs.Sources.{blamed, number_by, shadow_by}
+use Rattle.pg_slice_rules.specs.SymbolicValues.{OnInput, applied, index_narrowed, narrowed, result_of, valued}
+use Rattle.pg_slice_values.specs.declared.symbolic_node.SymbolicNode.{SymbolicNode}
+use Rattle.pg_slice_values.specs.SymbolicNodes.{blamed, number_by, symbolic_by}
 use Rattle.pg_slice_values.specs.Forms.{moved_each, moved_if, node_at, numbers_from}
 use Rattle.pg_slice_values.proofs.Operands.{all_known, number_from, numbers_length}
 
@@ -44,8 +44,8 @@ gep_applied base is (Some w ∷ ns) l =
     (λ j. let z : 1 + j ≡ suc j = omega arith in ap (λ k. narrowed (op.Gep base is) k (given (number_of (Some w ∷ ns) k))) z)
 
 -- the value of a node with these numbers is the result of the operation
-pub gep_is : (ns : NodeList) (base : Value) (is : List Index) (ss : List Source) (g : OnInput) → blamed ss ≡ None → length ss ≡ length is + 1 →
-    ((input : List ℤ) → g input ≡ moved_each (number_by ns (node_at ss 0) input) is (drop 1 (numbers_from ns ss input))) → valued g ≡ result_of (op.Gep base is) (map (shadow_by ns) ss)
+pub gep_is : (ns : NodeList) (base : Value) (is : List Index) (ss : List SymbolicNode) (g : OnInput) → blamed ss ≡ None → length ss ≡ length is + 1 →
+    ((input : List ℤ) → g input ≡ moved_each (number_by ns (node_at ss 0) input) is (drop 1 (numbers_from ns ss input))) → valued g ≡ result_of (op.Gep base is) (map (symbolic_by ns) ss)
 gep_is ns base is ss g e l h =
     ap (λ f. valued f) (fun_ext (λ input.
     h input

@@ -11,11 +11,11 @@ use Rattle.pg_precondition.specs.Nodes.{NodeList, IsNode}
 use Rattle.pg_precondition.specs.Values.{bit_of, cast_by, chosen, node_number, number_of, numbers_of, operated, with_both, with_one}
 use Rattle.pg_run_thread.specs.Compute.{number_of_bool}
 use Rattle.pg_run_thread.specs.Operands.{operands_of}
-use Rattle.pg_slice_rules.specs.Shadows.{applied, result_of, valued}
+use Rattle.pg_slice_rules.specs.SymbolicValues.{applied, result_of, valued}
 use Rattle.pg_slice_values.specs.declared.form.Form.{Form}
 use Rattle.pg_slice_values.specs.declared.form.Form.TheVariants as form
-use Rattle.pg_slice_values.specs.declared.source.Source.{Source}
-use Rattle.pg_slice_values.specs.Sources.{IsSource, blamed, shadow_by}
+use Rattle.pg_slice_values.specs.declared.symbolic_node.SymbolicNode.{SymbolicNode}
+use Rattle.pg_slice_values.specs.SymbolicNodes.{IsSymbolicNode, blamed, symbolic_by}
 use Rattle.pg_slice_values.specs.Forms.{CastFits, FitsForm, form_of, node_at, node_by, number_in, numbers_from, operand_count}
 use Rattle.pg_slice_values.proofs.Operands.{all_known, known_below, number_from, numbers_length}
 
@@ -95,7 +95,7 @@ by_both : (o : Option ℕ → Option ℕ → Option ℕ) (a b c d : Option ℕ) 
 by_both o a b c d e h = ap (λ x. o x b) e ∙ ap (λ y. o c y) h
 
 -- the node's number is the form's, by the numbers of the operands
-pub node_is : (ns : NodeList) (f : Form) (ss : List Source) (input : List ℤ) → length ss ≡ operand_count f
+pub node_is : (ns : NodeList) (f : Form) (ss : List SymbolicNode) (input : List ℤ) → length ss ≡ operand_count f
     → node_number input (numbers_of input ns) (node_by f ss) ≡ number_in f (numbers_from ns ss input)
 node_is ns (form.Binary o w) ss input e =
     by_both (λ x y. with_both x y (λ m n. operated o w (truncated w m) (truncated w n))) _ _ _ _ (sym (number_from ns ss input 0 (omega arith))) (sym (number_from ns ss input 1 (omega arith)))
@@ -104,18 +104,18 @@ node_is ns form.Select ss input e =
     ap (λ x. with_one x (λ n. chosen n (number_of (numbers_of input ns) (node_at ss 1)) (number_of (numbers_of input ns) (node_at ss 2)))) (sym (number_from ns ss input 0 (omega arith)))
     ∙ by_both (λ x y. with_one (number_of (numbers_from ns ss input) 0) (λ n. chosen n x y)) _ _ _ _ (sym (number_from ns ss input 1 (omega arith))) (sym (number_from ns ss input 2 (omega arith)))
 
-fits_below : (n : ℕ) (f : Form) (ss : List Source) → FitsForm f → blamed ss ≡ None → length ss ≡ operand_count f → AllByRecursion (IsSource n) ss → IsNode n (node_by f ss)
+fits_below : (n : ℕ) (f : Form) (ss : List SymbolicNode) → FitsForm f → blamed ss ≡ None → length ss ≡ operand_count f → AllByRecursion (IsSymbolicNode n) ss → IsNode n (node_by f ss)
 fits_below n (form.Binary o w) ss h e l a = (known_below n ss 0 e a (omega arith), known_below n ss 1 e a (omega arith))
 fits_below n (form.Cast c from to) ss h e l a = (known_below n ss 0 e a (omega arith), h)
 fits_below n form.Select ss h e l a = (known_below n ss 0 e a (omega arith), known_below n ss 1 e a (omega arith), known_below n ss 2 e a (omega arith))
 
-pub node_fits : (n : ℕ) (o : Op) (f : Form) (ss : List Source) → form_of o ≡ Some f → CastFits o → blamed ss ≡ None → length ss ≡ length (operands_of o)
-    → AllByRecursion (IsSource n) ss → IsNode n (node_by f ss)
+pub node_fits : (n : ℕ) (o : Op) (f : Form) (ss : List SymbolicNode) → form_of o ≡ Some f → CastFits o → blamed ss ≡ None → length ss ≡ length (operands_of o)
+    → AllByRecursion (IsSymbolicNode n) ss → IsNode n (node_by f ss)
 node_fits n o f ss e h b l a = let k = form_facts o f e in fits_below n f ss (k.fits h) b (l ∙ k.count) a
 
 -- the value of the node is the result of the operation
-pub formed : (ns : NodeList) (o : Op) (f : Form) (ss : List Source) → form_of o ≡ Some f → blamed ss ≡ None → length ss ≡ length (operands_of o)
-    → valued (λ input. node_number input (numbers_of input ns) (node_by f ss)) ≡ result_of o (map (shadow_by ns) ss)
+pub formed : (ns : NodeList) (o : Op) (f : Form) (ss : List SymbolicNode) → form_of o ≡ Some f → blamed ss ≡ None → length ss ≡ length (operands_of o)
+    → valued (λ input. node_number input (numbers_of input ns) (node_by f ss)) ≡ result_of o (map (symbolic_by ns) ss)
 formed ns o f ss e b l =
     let k = form_facts o f e in
     let c = l ∙ k.count in

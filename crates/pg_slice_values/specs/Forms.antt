@@ -17,9 +17,9 @@ use Rattle.pg_precondition.specs.Values.{cast_by, chosen, number_of, operated, w
 use Rattle.pg_run_thread.specs.Compute.{index_bytes}
 use Rattle.pg_slice_values.specs.declared.form.Form.{Form}
 use Rattle.pg_slice_values.specs.declared.form.Form.TheVariants as form
-use Rattle.pg_slice_values.specs.declared.source.Source.{Source}
-use Rattle.pg_slice_values.specs.declared.source.Source.TheVariants as source
-use Rattle.pg_slice_values.specs.Sources.{number_by}
+use Rattle.pg_slice_values.specs.declared.symbolic_node.SymbolicNode.{SymbolicNode}
+use Rattle.pg_slice_values.specs.declared.symbolic_node.SymbolicNode.TheVariants as symbolic_node
+use Rattle.pg_slice_values.specs.SymbolicNodes.{number_by}
 
 -- ---- operations that one node computes
 
@@ -68,25 +68,25 @@ CastFits _ = Unit {0}
 
 -- ---- the nodes of operands
 
-abbrev pub node_of : Source → ℕ
-node_of (source.Known k j) = k
-node_of (source.Bounded k x) = k
-node_of (source.Unknown x) = 0
+abbrev pub node_of : SymbolicNode → ℕ
+node_of (symbolic_node.Known k j) = k
+node_of (symbolic_node.Bounded k x) = k
+node_of (symbolic_node.Unknown x) = 0
 
-abbrev pub node_in : Option Source → ℕ
+abbrev pub node_in : Option SymbolicNode → ℕ
 node_in None = 0
 node_in (Some s) = node_of s
 
 -- the node of operand i, 0 where it has none
-abbrev pub node_at : List Source → ℕ → ℕ
+abbrev pub node_at : List SymbolicNode → ℕ → ℕ
 node_at ss i = node_in (slice_get ss i)
 
 -- the numbers of the operands' nodes on an input
-abbrev pub numbers_from : NodeList → List Source → List ℤ → List (Option ℕ)
-numbers_from ns ss input = map (λ (s : Source). number_by ns (node_of s) input) ss
+abbrev pub numbers_from : NodeList → List SymbolicNode → List ℤ → List (Option ℕ)
+numbers_from ns ss input = map (λ (s : SymbolicNode). number_by ns (node_of s) input) ss
 
 -- the node that computes a form
-abbrev pub node_by : Form → List Source → Node
+abbrev pub node_by : Form → List SymbolicNode → Node
 node_by (form.Binary o w) ss = node.Op o w (node_at ss 0) (node_at ss 1)
 node_by (form.Cast c from to) ss = node.Cast c from to (node_at ss 0)
 node_by form.Select ss = node.Select (node_at ss 0) (node_at ss 1) (node_at ss 2)

@@ -1,2 +1,2 @@
-pub mod Sources
+pub mod SymbolicNodes
 pub mod Forms

@@ -1,10 +1,10 @@
 //! How one node computes an operation.
 
 ghost use Rattle.std.specs.Prelude.{◌≡◌, None, length, slice_get};
-ghost use Rattle.pg_slice_values.specs.Sources as sources;
+ghost use Rattle.pg_slice_values.specs.SymbolicNodes as symbolic_nodes;
 ghost use Rattle.pg_slice_values.specs.Forms as forms;
 
-use crate::source::Source;
+use crate::symbolic_node::SymbolicNode;
 use pg_ir::Op;
 use pg_num::Width;
 use pg_precondition::{CastKind, Node, Operation};
@@ -43,30 +43,30 @@ pub(crate) fn form_of(op: &Op) -> Option<Form>
 }
 
 /// The first decision that is blamed where not all operands are known.
-pub(crate) fn blamed(operands: &[Source]) -> Option<Decision>
-    ensures { result ≡ sources.blamed operands.now }
+pub(crate) fn blamed(operands: &[SymbolicNode]) -> Option<Decision>
+    ensures { result ≡ symbolic_nodes.blamed operands.now }
 {
     for operand in operands {
         match operand {
-            Source::Known { .. } => {}
-            Source::Bounded(_, by) | Source::Unknown(by) => return Some(*by),
+            SymbolicNode::Known { .. } => {}
+            SymbolicNode::Bounded(_, by) | SymbolicNode::Unknown(by) => return Some(*by),
         }
     }
     None
 }
 
 /// The node of an operand, 0 where there is no such operand or nothing is known of it.
-pub(crate) fn node_at(operands: &[Source], i: usize) -> u32
+pub(crate) fn node_at(operands: &[SymbolicNode], i: usize) -> u32
     ensures { result ≡ forms.node_at operands.now i }
 {
     match operands.get(i) {
-        Some(Source::Known { value: node, .. } | Source::Bounded(node, _)) => *node,
+        Some(SymbolicNode::Known { value: node, .. } | SymbolicNode::Bounded(node, _)) => *node,
         _ => 0,
     }
 }
 
 /// The node that computes an operation of this form.
-pub(crate) fn node_by(form: Form, operands: &[Source]) -> Node
+pub(crate) fn node_by(form: Form, operands: &[SymbolicNode]) -> Node
     ensures { result ≡ forms.node_by form operands.now }
 {
     match form {

@@ -3,10 +3,10 @@
 ghost use Rattle.std.specs.Prelude.{◌≡◌, ◌<◌, ℤ, List, length, IfOk};
 ghost use Rattle.pg_precondition.specs.Nodes.{IsNode};
 ghost use Rattle.pg_precondition.specs.Values.{node_number, numbers_of};
-ghost use Rattle.pg_slice_rules.specs.Shadows.{valued};
-ghost use Rattle.pg_slice_values.specs.Sources.{Grew, IsSource, number_by, shadow_by};
+ghost use Rattle.pg_slice_rules.specs.SymbolicValues.{valued};
+ghost use Rattle.pg_slice_values.specs.SymbolicNodes.{Grew, IsSymbolicNode, number_by, symbolic_by};
 
-use crate::source::Source;
+use crate::symbolic_node::SymbolicNode;
 use pg_precondition::{Node, Nodes};
 use std::alloc::AllocError;
 
@@ -26,14 +26,14 @@ pub fn added(nodes: &mut Nodes, node: Node) -> Result<u32, AllocError>
 }
 
 /// Adds a node, and gives its value.
-pub(crate) fn known(nodes: &mut Nodes, node: Node) -> Result<Source, AllocError>
+pub(crate) fn known(nodes: &mut Nodes, node: Node) -> Result<SymbolicNode, AllocError>
     requires { IsNode (length nodes.old) node }
     ensures grew { Grew nodes.old nodes.new }
-    ensures is { IfOk result (IsSource (length nodes.new)) }
-    ensures value { IfOk result (λ s. shadow_by nodes.new s ≡ valued (λ input. node_number input (numbers_of input nodes.old) node)) }
+    ensures is { IfOk result (IsSymbolicNode (length nodes.new)) }
+    ensures value { IfOk result (λ s. symbolic_by nodes.new s ≡ valued (λ input. node_number input (numbers_of input nodes.old) node)) }
 {
     let number = added(nodes, node)?;
-    Ok(Source::Known {
+    Ok(SymbolicNode::Known {
         value: number,
         bounds: number,
     })

@@ -6,10 +6,10 @@ mod growing;
 pub mod laws;
 mod operations;
 mod pointers;
-mod source;
+mod symbolic_node;
 mod values;
 
 pub use growing::added;
 pub use operations::operation;
-pub use source::Source;
+pub use symbolic_node::SymbolicNode;
 pub use values::{constant, from_input, input_length, low_byte, offset, unset, value, within};

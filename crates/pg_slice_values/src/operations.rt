@@ -1,17 +1,17 @@
-//! The sources of results.
+//! The symbolic values of results.
 
 ghost use Rattle.std.specs.Prelude.{◌≡◌, IsTrue, length, map, IfOk};
 ghost use Rattle.std.specs.List.{AllByRecursion};
 ghost use Rattle.pg_run_thread.specs.Compute.{computes};
 ghost use Rattle.pg_run_thread.specs.Operands.{operands_of};
-ghost use Rattle.pg_slice_rules.specs.Shadows.{result_of};
-ghost use Rattle.pg_slice_values.specs.Sources.{Grew, IsSource, shadow_by};
+ghost use Rattle.pg_slice_rules.specs.SymbolicValues.{result_of};
+ghost use Rattle.pg_slice_values.specs.SymbolicNodes.{Grew, IsSymbolicNode, symbolic_by};
 ghost use Rattle.pg_slice_values.specs.Forms.{CastFits};
 
 use crate::form::{blamed, form_of, node_by};
 use crate::growing::known;
 use crate::pointers::moved_along;
-use crate::source::Source;
+use crate::symbolic_node::SymbolicNode;
 use pg_ir::Op;
 use pg_precondition::Nodes;
 use std::alloc::AllocError;
@@ -22,17 +22,21 @@ use std::alloc::AllocError;
 /// # Errors
 ///
 /// Where no memory is left for its nodes. Some of them may have been added.
-pub fn operation(nodes: &mut Nodes, op: &Op, operands: &[Source]) -> Result<Source, AllocError>
+pub fn operation(
+    nodes: &mut Nodes,
+    op: &Op,
+    operands: &[SymbolicNode],
+) -> Result<SymbolicNode, AllocError>
     requires computes { IsTrue (computes op.now) }
     requires cast { CastFits op.now }
     requires count { length operands.now ≡ length (operands_of op.now) }
-    requires sources { AllByRecursion (IsSource (length nodes.old)) operands.now }
+    requires symbolic_nodes { AllByRecursion (IsSymbolicNode (length nodes.old)) operands.now }
     ensures grew { Grew nodes.old nodes.new }
-    ensures is { IfOk result (IsSource (length nodes.new)) }
-    ensures value { IfOk result (λ s. shadow_by nodes.new s ≡ result_of op.now (map (shadow_by nodes.old) operands.now)) }
+    ensures is { IfOk result (IsSymbolicNode (length nodes.new)) }
+    ensures value { IfOk result (λ s. symbolic_by nodes.new s ≡ result_of op.now (map (symbolic_by nodes.old) operands.now)) }
 {
     if let Some(by) = blamed(operands) {
-        return Ok(Source::Unknown(by));
+        return Ok(SymbolicNode::Unknown(by));
     }
     if let Some(form) = form_of(op) {
         return known(nodes, node_by(form, operands));
@@ -40,7 +44,7 @@ pub fn operation(nodes: &mut Nodes, op: &Op, operands: &[Source]) -> Result<Sour
     match op {
         Op::Gep { indices, .. } => {
             let word = moved_along(nodes, indices.as_slice(), operands)?;
-            Ok(Source::Known {
+            Ok(SymbolicNode::Known {
                 value: word,
                 bounds: word,
             })

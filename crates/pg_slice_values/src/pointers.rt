@@ -1,18 +1,18 @@
-//! The sources of moved pointers.
+//! The symbolic values of moved pointers.
 
 ghost use Rattle.std.specs.Prelude.{◌≡◌, ℤ, ◌<◌, ◌+◌, None, Some, List, drop, length, IfOk};
 ghost use Rattle.std.specs.List.{AllByRecursion};
 ghost use Rattle.pg_num.specs.Numbers.{product_of, sign_extended, truncated};
 ghost use Rattle.pg_num.specs.declared.width.Width.TheVariants.{W64};
 ghost use Rattle.pg_precondition.specs.Values.{with_one};
-ghost use Rattle.pg_slice_values.specs.Sources.{Grew, IsSource, number_by};
-ghost use Rattle.pg_slice_values.specs.Sources as sources;
+ghost use Rattle.pg_slice_values.specs.SymbolicNodes.{Grew, IsSymbolicNode, number_by};
+ghost use Rattle.pg_slice_values.specs.SymbolicNodes as symbolic_nodes;
 ghost use Rattle.pg_slice_values.specs.Forms.{distance_of, moved_each, moved_if, numbers_from};
 ghost use Rattle.pg_slice_values.specs.Forms as forms;
 
 use crate::form::node_at;
 use crate::growing::added;
-use crate::source::Source;
+use crate::symbolic_node::SymbolicNode;
 use pg_ir::{Index, Scale};
 use pg_num::Width;
 use pg_precondition::{CastKind, Node, Nodes, Operation};
@@ -99,10 +99,10 @@ fn moved_once(nodes: &mut Nodes, word: u32, index: Index, node: u32) -> Result<u
 pub(crate) fn moved_along(
     nodes: &mut Nodes,
     indices: &[Index],
-    operands: &[Source],
+    operands: &[SymbolicNode],
 ) -> Result<u32, AllocError>
-    requires known { sources.blamed operands.now ≡ None }
-    requires sources { AllByRecursion (IsSource (length nodes.old)) operands.now }
+    requires known { symbolic_nodes.blamed operands.now ≡ None }
+    requires symbolic_nodes { AllByRecursion (IsSymbolicNode (length nodes.old)) operands.now }
     requires count { length operands.now ≡ length indices.now + 1 }
     ensures grew { Grew nodes.old nodes.new }
     ensures is { IfOk result (λ k. k < length nodes.new) }

@@ -1,16 +1,16 @@
-//! The sources of operands.
+//! The symbolic values of operands.
 
 ghost use Rattle.std.specs.Prelude.{◌≡◌, ◌<◌, ◌%◌, length, map, slice_index_or, IfOk, Some, None};
 ghost use Rattle.std.specs.List.{AllByRecursion};
 ghost use Rattle.pg_num.specs.Numbers.{modulus};
-ghost use Rattle.pg_slice_rules.specs.Shadows.{Known, always, cut, shadow_of, valued};
-ghost use Rattle.pg_slice_rules.specs.Shadows as shadows;
-ghost use Rattle.pg_slice_rules.specs.Rules.{moved_shadow};
+ghost use Rattle.pg_slice_rules.specs.SymbolicValues.{Known, always, cut, symbolic_of, valued};
+ghost use Rattle.pg_slice_rules.specs.SymbolicValues as symbolics;
+ghost use Rattle.pg_slice_rules.specs.Rules.{moved_symbolic};
 ghost use Rattle.pg_slice_rules.specs.Known as along;
-ghost use Rattle.pg_slice_values.specs.Sources.{Grew, IsSource, number_by, shadow_by};
+ghost use Rattle.pg_slice_values.specs.SymbolicNodes.{Grew, IsSymbolicNode, number_by, symbolic_by};
 
 use crate::growing::{added, known};
-use crate::source::Source;
+use crate::symbolic_node::SymbolicNode;
 use pg_ir::{Program, Value};
 use pg_num::{Division, Width};
 use pg_precondition::{CastKind, Node, Nodes, Operation};
@@ -21,10 +21,10 @@ use std::alloc::AllocError;
 /// # Errors
 ///
 /// Where no memory is left for its node.
-pub fn constant(nodes: &mut Nodes, n: u64) -> Result<Source, AllocError>
+pub fn constant(nodes: &mut Nodes, n: u64) -> Result<SymbolicNode, AllocError>
     ensures grew { Grew nodes.old nodes.new }
-    ensures is { IfOk result (IsSource (length nodes.new)) }
-    ensures value { IfOk result (λ s. shadow_by nodes.new s ≡ always n) }
+    ensures is { IfOk result (IsSymbolicNode (length nodes.new)) }
+    ensures value { IfOk result (λ s. symbolic_by nodes.new s ≡ always n) }
 {
     known(nodes, Node::Const(n))
 }
@@ -35,10 +35,10 @@ pub fn constant(nodes: &mut Nodes, n: u64) -> Result<Source, AllocError>
 ///
 /// Where no memory is left for its nodes. Some of them may have been added.
 #[tactic(auto, using(crate::proofs::GrowingNodes::grew_then))]
-pub fn unset(nodes: &mut Nodes) -> Result<Source, AllocError>
+pub fn unset(nodes: &mut Nodes) -> Result<SymbolicNode, AllocError>
     ensures grew { Grew nodes.old nodes.new }
-    ensures is { IfOk result (IsSource (length nodes.new)) }
-    ensures value { IfOk result (λ s. shadow_by nodes.new s ≡ shadows.unset) }
+    ensures is { IfOk result (IsSymbolicNode (length nodes.new)) }
+    ensures value { IfOk result (λ s. symbolic_by nodes.new s ≡ symbolics.unset) }
 {
     let zero = added(nodes, Node::Const(0))?;
     known(
@@ -54,10 +54,10 @@ pub fn unset(nodes: &mut Nodes) -> Result<Source, AllocError>
 
 /// A number that is the same on each input, or has none on any.
 #[tactic(auto, using(crate::proofs::GrowingNodes::grew_none))]
-fn fixed(nodes: &mut Nodes, n: Option<u64>) -> Result<Source, AllocError>
+fn fixed(nodes: &mut Nodes, n: Option<u64>) -> Result<SymbolicNode, AllocError>
     ensures grew { Grew nodes.old nodes.new }
-    ensures is { IfOk result (IsSource (length nodes.new)) }
-    ensures value { IfOk result (λ s. shadow_by nodes.new s ≡ valued (λ input. n)) }
+    ensures is { IfOk result (IsSymbolicNode (length nodes.new)) }
+    ensures value { IfOk result (λ s. symbolic_by nodes.new s ≡ valued (λ input. n)) }
 {
     match n {
         Some(n) => constant(nodes, n),
@@ -65,13 +65,17 @@ fn fixed(nodes: &mut Nodes, n: Option<u64>) -> Result<Source, AllocError>
     }
 }
 
-/// The source of a register; one that isn't there was never set.
+/// The symbolic value of a register; one that isn't there was never set.
 #[tactic(auto, using(crate::proofs::GrowingNodes::grew_none, crate::proofs::Registers::register_at, crate::proofs::Registers::register_is, crate::proofs::Registers::no_register))]
-fn register(nodes: &mut Nodes, r: u32, registers: &[Source]) -> Result<Source, AllocError>
-    requires { AllByRecursion (IsSource (length nodes.old)) registers.now }
+fn register(
+    nodes: &mut Nodes,
+    r: u32,
+    registers: &[SymbolicNode],
+) -> Result<SymbolicNode, AllocError>
+    requires { AllByRecursion (IsSymbolicNode (length nodes.old)) registers.now }
     ensures grew { Grew nodes.old nodes.new }
-    ensures is { IfOk result (IsSource (length nodes.new)) }
-    ensures value { IfOk result (λ s. shadow_by nodes.new s ≡ slice_index_or (map (shadow_by nodes.old) registers.now) r shadows.unset) }
+    ensures is { IfOk result (IsSymbolicNode (length nodes.new)) }
+    ensures value { IfOk result (λ s. symbolic_by nodes.new s ≡ slice_index_or (map (symbolic_by nodes.old) registers.now) r symbolics.unset) }
 {
     match registers.get(r as usize).copied() {
         Some(s) => Ok(s),
@@ -89,12 +93,12 @@ pub fn value(
     nodes: &mut Nodes,
     p: &Program,
     v: Value,
-    registers: &[Source],
-) -> Result<Source, AllocError>
-    requires { AllByRecursion (IsSource (length nodes.old)) registers.now }
+    registers: &[SymbolicNode],
+) -> Result<SymbolicNode, AllocError>
+    requires { AllByRecursion (IsSymbolicNode (length nodes.old)) registers.now }
     ensures grew { Grew nodes.old nodes.new }
-    ensures is { IfOk result (IsSource (length nodes.new)) }
-    ensures value { IfOk result (λ s. shadow_by nodes.new s ≡ shadow_of p.now (map (shadow_by nodes.old) registers.now) v) }
+    ensures is { IfOk result (IsSymbolicNode (length nodes.new)) }
+    ensures value { IfOk result (λ s. symbolic_by nodes.new s ≡ symbolic_of p.now (map (symbolic_by nodes.old) registers.now) v) }
 {
     match v {
         Value::Register(r) => register(nodes, r, registers),
@@ -110,14 +114,14 @@ pub fn value(
 ///
 /// Where no memory is left for its node.
 #[tactic(auto, using(crate::proofs::GrowingNodes::grew_none, crate::proofs::Widths::within_64))]
-pub fn within(nodes: &mut Nodes, w: Width, s: Source) -> Result<Source, AllocError>
-    requires { IsSource (length nodes.old) s }
+pub fn within(nodes: &mut Nodes, w: Width, s: SymbolicNode) -> Result<SymbolicNode, AllocError>
+    requires { IsSymbolicNode (length nodes.old) s }
     ensures grew { Grew nodes.old nodes.new }
-    ensures is { IfOk result (IsSource (length nodes.new)) }
-    ensures value { IfOk result (λ r. shadow_by nodes.new r ≡ cut (λ n. n % modulus w) (shadow_by nodes.old s)) }
+    ensures is { IfOk result (IsSymbolicNode (length nodes.new)) }
+    ensures value { IfOk result (λ r. symbolic_by nodes.new r ≡ cut (λ n. n % modulus w) (symbolic_by nodes.old s)) }
 {
     match s {
-        Source::Known { value: of, .. } => known(
+        SymbolicNode::Known { value: of, .. } => known(
             nodes,
             Node::Cast {
                 cast: CastKind::Zext,
@@ -126,7 +130,7 @@ pub fn within(nodes: &mut Nodes, w: Width, s: Source) -> Result<Source, AllocErr
                 of,
             },
         ),
-        Source::Bounded(_, by) | Source::Unknown(by) => Ok(Source::Unknown(by)),
+        SymbolicNode::Bounded(_, by) | SymbolicNode::Unknown(by) => Ok(SymbolicNode::Unknown(by)),
     }
 }
 
@@ -135,11 +139,11 @@ pub fn within(nodes: &mut Nodes, w: Width, s: Source) -> Result<Source, AllocErr
 /// # Errors
 ///
 /// Where no memory is left for its node.
-pub fn low_byte(nodes: &mut Nodes, s: Source) -> Result<Source, AllocError>
-    requires { IsSource (length nodes.old) s }
+pub fn low_byte(nodes: &mut Nodes, s: SymbolicNode) -> Result<SymbolicNode, AllocError>
+    requires { IsSymbolicNode (length nodes.old) s }
     ensures grew { Grew nodes.old nodes.new }
-    ensures is { IfOk result (IsSource (length nodes.new)) }
-    ensures value { IfOk result (λ r. shadow_by nodes.new r ≡ along.low_byte (shadow_by nodes.old s)) }
+    ensures is { IfOk result (IsSymbolicNode (length nodes.new)) }
+    ensures value { IfOk result (λ r. symbolic_by nodes.new r ≡ along.low_byte (symbolic_by nodes.old s)) }
 {
     within(nodes, Width::W8, s)
 }
@@ -150,30 +154,30 @@ pub fn low_byte(nodes: &mut Nodes, s: Source) -> Result<Source, AllocError>
 ///
 /// Where no memory is left for its nodes. Some of them may have been added.
 #[tactic(auto, using(crate::proofs::GrowingNodes::grew_none, crate::proofs::GrowingNodes::grew_then))]
-pub fn offset(nodes: &mut Nodes, k: u64, s: Source) -> Result<Source, AllocError>
-    requires { IsSource (length nodes.old) s }
+pub fn offset(nodes: &mut Nodes, k: u64, s: SymbolicNode) -> Result<SymbolicNode, AllocError>
+    requires { IsSymbolicNode (length nodes.old) s }
     ensures grew { Grew nodes.old nodes.new }
-    ensures is { IfOk result (IsSource (length nodes.new)) }
-    ensures value { IfOk result (λ r. shadow_by nodes.new r ≡ moved_shadow k (shadow_by nodes.old s)) }
+    ensures is { IfOk result (IsSymbolicNode (length nodes.new)) }
+    ensures value { IfOk result (λ r. symbolic_by nodes.new r ≡ moved_symbolic k (symbolic_by nodes.old s)) }
 {
     match s {
-        Source::Known { value, bounds } => moved_word(nodes, k, value, bounds),
-        Source::Bounded(..) | Source::Unknown(_) => Ok(s),
+        SymbolicNode::Known { value, bounds } => moved_word(nodes, k, value, bounds),
+        SymbolicNode::Bounded(..) | SymbolicNode::Unknown(_) => Ok(s),
     }
 }
 
 /// The value of a node's word, moved by so many bytes, with the bounds of another node's word.
 #[tactic(auto, using(crate::proofs::GrowingNodes::grew_then, crate::proofs::GrowingNodes::grew_length))]
-fn moved_word(nodes: &mut Nodes, k: u64, base: u32, bounds: u32) -> Result<Source, AllocError>
+fn moved_word(nodes: &mut Nodes, k: u64, base: u32, bounds: u32) -> Result<SymbolicNode, AllocError>
     requires base { base < length nodes.old }
     requires bounds { bounds < length nodes.old }
     ensures grew { Grew nodes.old nodes.new }
-    ensures is { IfOk result (IsSource (length nodes.new)) }
-    ensures value { IfOk result (λ r. shadow_by nodes.new r ≡ moved_shadow k (Known (number_by nodes.old base) (number_by nodes.old bounds))) }
+    ensures is { IfOk result (IsSymbolicNode (length nodes.new)) }
+    ensures value { IfOk result (λ r. symbolic_by nodes.new r ≡ moved_symbolic k (Known (number_by nodes.old base) (number_by nodes.old bounds))) }
 {
     let delta = added(nodes, Node::Const(k))?;
     let value = added(nodes, Node::Gep { base, delta })?;
-    Ok(Source::Known { value, bounds })
+    Ok(SymbolicNode::Known { value, bounds })
 }
 
 /// The input's number at an index, which is read with its sign; 0 outside of the input.
@@ -182,15 +186,15 @@ fn moved_word(nodes: &mut Nodes, k: u64, base: u32, bounds: u32) -> Result<Sourc
 ///
 /// Where no memory is left for its node.
 #[tactic(auto, using(crate::proofs::GrowingNodes::grew_none))]
-pub fn from_input(nodes: &mut Nodes, s: Source) -> Result<Source, AllocError>
-    requires { IsSource (length nodes.old) s }
+pub fn from_input(nodes: &mut Nodes, s: SymbolicNode) -> Result<SymbolicNode, AllocError>
+    requires { IsSymbolicNode (length nodes.old) s }
     ensures grew { Grew nodes.old nodes.new }
-    ensures is { IfOk result (IsSource (length nodes.new)) }
-    ensures value { IfOk result (λ r. shadow_by nodes.new r ≡ along.from_input (shadow_by nodes.old s)) }
+    ensures is { IfOk result (IsSymbolicNode (length nodes.new)) }
+    ensures value { IfOk result (λ r. symbolic_by nodes.new r ≡ along.from_input (symbolic_by nodes.old s)) }
 {
     match s {
-        Source::Known { value: index, .. } => known(nodes, Node::In(index)),
-        Source::Bounded(_, by) | Source::Unknown(by) => Ok(Source::Unknown(by)),
+        SymbolicNode::Known { value: index, .. } => known(nodes, Node::In(index)),
+        SymbolicNode::Bounded(_, by) | SymbolicNode::Unknown(by) => Ok(SymbolicNode::Unknown(by)),
     }
 }
 
@@ -199,10 +203,10 @@ pub fn from_input(nodes: &mut Nodes, s: Source) -> Result<Source, AllocError>
 /// # Errors
 ///
 /// Where no memory is left for its node.
-pub fn input_length(nodes: &mut Nodes) -> Result<Source, AllocError>
+pub fn input_length(nodes: &mut Nodes) -> Result<SymbolicNode, AllocError>
     ensures grew { Grew nodes.old nodes.new }
-    ensures is { IfOk result (IsSource (length nodes.new)) }
-    ensures value { IfOk result (λ r. shadow_by nodes.new r ≡ valued (λ input. Some (length input))) }
+    ensures is { IfOk result (IsSymbolicNode (length nodes.new)) }
+    ensures value { IfOk result (λ r. symbolic_by nodes.new r ≡ valued (λ input. Some (length input))) }
 {
     known(nodes, Node::InLen)
 }

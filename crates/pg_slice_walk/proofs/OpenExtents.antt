@@ -6,7 +6,7 @@ use Rattle.std.specs.List.{AllByRecursion}
 use Rattle.std.proofs.lemmas.Bool.{true≢false, cases_lt}
 use Rattle.pg_slice_rules.specs.Extents.{Extent, begun, ends, open_after}
 use Rattle.pg_slice_rules.specs.Freeable.{FreeRegion}
-use Rattle.pg_slice_rules.specs.Known.{Reference, RunShadow, Taken, ThreadShadow, after_step, edge_of, no_thread, region_of, start_of, thread_of}
+use Rattle.pg_slice_rules.specs.Known.{Reference, SymbolicState, Taken, SymbolicThread, after_step, edge_of, no_thread, region_of, start_of, thread_of}
 use Rattle.pg_slice_rules.specs.Moments.{Moment, instr_in, thread_in}
 use Rattle.pg_law_least.specs.Along.{region_in}
 use Rattle.pg_law_least.specs.Keeps.{AreStacked, ExtentsKeep, every, steps_of}
@@ -120,13 +120,13 @@ no_extents : (p : NumberedProgram) (kind : StepKind) (i : ℕ) → (slice_index_
 no_extents p (kinds.Event v) i = no_extents_by p v v.kind i
 no_extents p _ i = refl
 
-made_extents : (p : NumberedProgram) (d : Taken) (n : ℕ) (m : Moment) (region : Option FreeRegion) (s : RunShadow) (b : Bool) (o : Option Instr) (i : ℕ) →
+made_extents : (p : NumberedProgram) (d : Taken) (n : ℕ) (m : Moment) (region : Option FreeRegion) (s : SymbolicState) (b : Bool) (o : Option Instr) (i : ℕ) →
     (slice_index_or (own_made p d n m region s b o) i no_thread).extents ≡ []
 made_extents p d n m region s false o i = refl
 made_extents p d n m region s true None i = refl
 made_extents p d n m region s true (Some x) i = no_extents p m.did.did.kind i
 
-past_threads : (xs : List ThreadShadow) (i : ℕ) → length xs ≤ i → slice_index_or xs i no_thread ≡ no_thread
+past_threads : (xs : List SymbolicThread) (i : ℕ) → length xs ≤ i → slice_index_or xs i no_thread ≡ no_thread
 past_threads [] i l = refl
 past_threads (x ∷ xs) zero l = absurd (omega (arith, l))
 past_threads (x ∷ xs) (suc i) l = past_threads xs i (omega (arith, l))
@@ -137,36 +137,36 @@ get_at (y ∷ xs) x zero l = refl
 get_at (y ∷ xs) x (suc j) l = get_at xs x j (omega (arith, l))
 
 module _ (R : Reference) (keeps : ExtentsKeep R) (n : ℕ) (m : Moment) (q : slice_get R.moments n ≡ Some m) where
-  abbrev shadow : RunShadow
-  shadow = known_at R every n
+  abbrev symbolic : SymbolicState
+  symbolic = known_at R every n
 
   abbrev thread : ℕ
   thread = thread_in m
 
-  pub in_run : Contains (steps_of R) (of_every R n m shadow)
+  pub in_run : Contains (steps_of R) (of_every R n m symbolic)
   in_run = (at_step R keeps every n m q).in_run
 
-  pub begun_before : thread < length shadow.threads
-  begun_before = keeps.known (of_every R n m shadow) in_run
+  pub begun_before : thread < length symbolic.threads
+  begun_before = keeps.known (of_every R n m symbolic) in_run
 
-  pub own_next : (thread_of (after_step R every n m shadow) thread).extents ≡ open_after n (length m.calls) (region_in R m) (edge_of R.program m m.did.did.kind) (thread_of shadow thread).extents
-  own_next = ap (λ (h : ThreadShadow). h.extents) (thread_own R every n m shadow begun_before)
+  pub own_next : (thread_of (after_step R every n m symbolic) thread).extents ≡ open_after n (length m.calls) (region_in R m) (edge_of R.program m m.did.did.kind) (thread_of symbolic thread).extents
+  own_next = ap (λ (h : SymbolicThread). h.extents) (thread_own R every n m symbolic begun_before)
 
-  pub other_next : (u : ℕ) → (u ≡ thread → ⊥) → (thread_of (after_step R every n m shadow) u).extents ≡ (thread_of shadow u).extents
-  other_next u o = go (cases_lt u (length shadow.threads))
+  pub other_next : (u : ℕ) → (u ≡ thread → ⊥) → (thread_of (after_step R every n m symbolic) u).extents ≡ (thread_of symbolic u).extents
+  other_next u o = go (cases_lt u (length symbolic.threads))
     where
-      go : (u < length shadow.threads) ⊎ (length shadow.threads ≤ u) → (thread_of (after_step R every n m shadow) u).extents ≡ (thread_of shadow u).extents
-      go (inl l) = ap (λ (h : ThreadShadow). h.extents) (thread_other R every n m shadow u o l)
+      go : (u < length symbolic.threads) ⊎ (length symbolic.threads ≤ u) → (thread_of (after_step R every n m symbolic) u).extents ≡ (thread_of symbolic u).extents
+      go (inl l) = ap (λ (h : SymbolicThread). h.extents) (thread_other R every n m symbolic u o l)
       go (inr l) =
-          ap (λ (h : ThreadShadow). h.extents) (thread_made R every n m shadow u o l)
-          ∙ made_extents R.program every n m (region_of R.program R.regions m (instr_in R.program m)) shadow _ (instr_in R.program m) (u - length shadow.threads)
-          ∙ sym (ap (λ (h : ThreadShadow). h.extents) (past_threads shadow.threads u l))
+          ap (λ (h : SymbolicThread). h.extents) (thread_made R every n m symbolic u o l)
+          ∙ made_extents R.program every n m (region_of R.program R.regions m (instr_in R.program m)) symbolic _ (instr_in R.program m) (u - length symbolic.threads)
+          ∙ sym (ap (λ (h : SymbolicThread). h.extents) (past_threads symbolic.threads u l))
 
-  pub next_is : known_at R every (suc n) ≡ after_step R every n m shadow
-  next_is = let z : 0 + n ≡ n = omega arith in subst (λ (i : ℕ). known_at R every (suc n) ≡ after_step R every i m shadow) z (next_step R every 0 n (start_of R.program) R.moments m q)
+  pub next_is : known_at R every (suc n) ≡ after_step R every n m symbolic
+  next_is = let z : 0 + n ≡ n = omega arith in subst (λ (i : ℕ). known_at R every (suc n) ≡ after_step R every i m symbolic) z (next_step R every 0 n (start_of R.program) R.moments m q)
 
 module _ (R : Reference) (keeps : ExtentsKeep R) (r : ReferenceRun) (n : ℕ) (m : Moment) (q : slice_get R.moments n ≡ Some m) where
-  abbrev s : RunShadow
+  abbrev s : SymbolicState
   s = known_at R every n
 
   abbrev t : ℕ
@@ -223,13 +223,13 @@ module _ (R : Reference) (keeps : ExtentsKeep R) (r : ReferenceRun) (n : ℕ) (m
       later : (u : ℕ) (b : Bool) → (u == t) ≡ b → IsHeld r more (slice_index_or new u 0) (thread_of (known_at R every (suc n)) u).extents
       later u true e =
           let z : u ≡ t = eqb-true u t e in
-          subst (λ (y : RunShadow). IsHeld r more (slice_index_or new u 0) (thread_of y u).extents) (sym (next_is R keeps n m q))
+          subst (λ (y : SymbolicState). IsHeld r more (slice_index_or new u 0) (thread_of y u).extents) (sym (next_is R keeps n m q))
           (subst (λ (i : ℕ). IsHeld r more (slice_index_or new i 0) (thread_of (after_step R every n m s) i).extents) (sym z)
           (subst (λ (i : ℕ). IsHeld r more i (thread_of (after_step R every n m s) t).extents) (sym own)
           (subst (λ (es : List Extent). IsHeld r more left es) (sym (own_next R keeps n m q)) left_held)))
       later u false e =
           let o : u ≡ t → ⊥ = λ z. true≢false (sym (eq-eqb u t z) ∙ e) in
-          subst (λ (y : RunShadow). IsHeld r more (slice_index_or new u 0) (thread_of y u).extents) (sym (next_is R keeps n m q))
+          subst (λ (y : SymbolicState). IsHeld r more (slice_index_or new u 0) (thread_of y u).extents) (sym (next_is R keeps n m q))
           (subst (λ (i : ℕ). IsHeld r more i (thread_of (after_step R every n m s) u).extents) (sym (others u o))
           (subst (λ (es : List Extent). IsHeld r more (slice_index_or old u 0) es) (sym (other_next R keeps n m q u o))
           (held_more r holders (slice_index_or old t 0 ∷ []) (slice_index_or old u 0) _ (a.now u))))

@@ -7,7 +7,7 @@ use Rattle.std.proofs.lemmas.Bool.{true≢false, cases_lt, le-leb, lt-ltb}
 use Rattle.pg_slice_rules.specs.Moments.{Moment, thread_in}
 use Rattle.pg_slice_rules.specs.Extents.{Extent}
 use Rattle.pg_slice_rules.specs.Freeable.{FreeRegion}
-use Rattle.pg_slice_rules.specs.Known.{Reference, RunShadow, Seen, Taken, after_step, start_of, thread_of}
+use Rattle.pg_slice_rules.specs.Known.{Reference, SymbolicState, Seen, Taken, after_step, start_of, thread_of}
 use Rattle.pg_law_least.specs.Keeps.{ExtentsKeep, every}
 use Rattle.pg_law_least.proofs.LikeValues.{Likes}
 use Rattle.pg_region_paths.proofs.Elements.{cases as cases_in, none_in}
@@ -134,7 +134,7 @@ module _ (R : Reference) (keeps : ExtentsKeep R) (e : Taken) where
 
         all : AllByRecursion (IsMet (known_at R e n)) (passing R y (first_free (others x.step) es) (d ∷ []))
         all = passing_met R keeps e (length R.moments) (Likes every) (the_link e (length R.moments)) n m (known_at R e n) (known_at R every n) a.like a.in_run (others x.step) (d ∷ [])
-            (subst (λ (s : RunShadow). IsMet s d) (step_is n m q) h, tt)
+            (subst (λ (s : SymbolicState). IsMet s d) (step_is n m q) h, tt)
 
         go : (o : Option Extent) → first_free (others x.step) es ≡ o → IsMet (known_at R e n) d
         go None f = absurd (free_some x.step es x refl c f)

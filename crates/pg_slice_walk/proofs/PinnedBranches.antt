@@ -6,7 +6,7 @@ use Rattle.std.proofs.lemmas.List.Elements.{Contains-append_right}
 use Rattle.pg_slice_rules.specs.Moments.{Moment, thread_in}
 use Rattle.pg_slice_rules.specs.Extents.{Extent, is_live}
 use Rattle.pg_slice_rules.specs.Freeable.{FreeRegion}
-use Rattle.pg_slice_rules.specs.Known.{Reference, RunShadow, Taken, registers_of, thread_of}
+use Rattle.pg_slice_rules.specs.Known.{Reference, SymbolicState, Taken, registers_of, thread_of}
 use Rattle.pg_law_least.specs.Keeps.{ExtentsKeep, every}
 use Rattle.pg_law_least.proofs.LikeValues.{Likes}
 use Rattle.pg_law_least.proofs.OldestFreeExtent.{or_this, stand}
@@ -48,7 +48,7 @@ module _ (R : Reference) (keeps : ExtentsKeep R) (e : Taken) (n : ℕ) (m : Mome
       let a = at_step R keeps e n m q in
       pinned_if R keeps e (length R.moments) (Likes every) (the_link e (length R.moments)) n m (known_at R e n) (known_at R every n) a.like a.in_run x older
       (λ o f. subst (λ (zs : List Extent). stand e zs ≡ Some o) (sym whole) (stand_more e younger (x ∷ older) o f)) live (d ∷ [])
-      (subst (λ (s : RunShadow). IsMet s d) (step_is R keeps e n m q) h, tt)
+      (subst (λ (s : SymbolicState). IsMet s d) (step_is R keeps e n m q) h, tt)
       (subst (λ (o : Option FreeRegion). sets_any o y x.depth (d ∷ []) ≡ true) (sym is) s)
 
   pub pinned_open : (count : ℕ) → count ≡ length (registers_of (known_at R every x.step) (thread_in m)) → (w : Demanded) → AreMet (known_at R e (suc n)) w →

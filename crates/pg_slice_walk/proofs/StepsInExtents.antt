@@ -15,8 +15,8 @@ use Rattle.pg_run_trace.specs.Steps.{happening_in}
 use Rattle.pg_slice_rules.specs.Moments.{Moment, instr_in, thread_in}
 use Rattle.pg_slice_rules.specs.Extents.{Extent, begun, ends}
 use Rattle.pg_slice_rules.specs.Freeable.{FreeRegion, Regions}
-use Rattle.pg_slice_rules.specs.Shadows.{Shadow}
-use Rattle.pg_slice_rules.specs.Known.{Reference, RunShadow, ThreadShadow, after_step, edge_of, is_branch, region_of, registers_of, thread_of}
+use Rattle.pg_slice_rules.specs.SymbolicValues.{Symbolic}
+use Rattle.pg_slice_rules.specs.Known.{Reference, SymbolicState, SymbolicThread, after_step, edge_of, is_branch, region_of, registers_of, thread_of}
 use Rattle.pg_law_least.specs.Along.{region_in}
 use Rattle.pg_law_least.specs.Keeps.{ExtentsKeep, KeepsTo, every, is_branching}
 use Rattle.pg_law_least.proofs.KnownCallCounts.{region_branch}
@@ -39,9 +39,9 @@ abbrev lens_at : ℕ → List ℕ → ℕ
 lens_at k [] = 0
 lens_at k (l ∷ ls) = if suc (length ls) == k then l else lens_at k ls
 
-at_lens : (k : ℕ) (cs : List (List Shadow)) → length (call_at k cs) ≡ lens_at k (lens_of cs)
+at_lens : (k : ℕ) (cs : List (List Symbolic)) → length (call_at k cs) ≡ lens_at k (lens_of cs)
 at_lens k [] = refl
-at_lens k (rs ∷ cs) = rw (length-map cs (λ (rs : List Shadow). length rs)) (go (suc (length cs) == k) (at_lens k cs))
+at_lens k (rs ∷ cs) = rw (length-map cs (λ (rs : List Symbolic). length rs)) (go (suc (length cs) == k) (at_lens k cs))
   where
     go : (b : Bool) → length (call_at k cs) ≡ lens_at k (lens_of cs) → length (if b then rs else call_at k cs) ≡ (if b then length rs else lens_at k (lens_of cs))
     go true h = refl
@@ -116,7 +116,7 @@ pub record Begins (R : Reference) (n t : ℕ) (m : Moment) (x : Extent) : Type 0
   pub own : own_extent n (length m.calls) region ≡ x
 
 module _ (R : Reference) (keeps : ExtentsKeep R) (n : ℕ) (m : Moment) (q : slice_get R.moments n ≡ Some m) where
-  abbrev u : RunShadow
+  abbrev u : SymbolicState
   u = known_at R every n
 
   begun_cases : (o : Option FreeRegion) → region_in R m ≡ o → (es : List Extent) (x : Extent) → Contains (begun n (length m.calls) o es) x → Contains es x ⊎ Begins R n (thread_in m) m x
@@ -138,7 +138,7 @@ module _ (R : Reference) (keeps : ExtentsKeep R) (n : ℕ) (m : Moment) (q : sli
   opened t x c = go (t == thread_in m) refl
     where
       c2 : Contains (thread_of (after_step R every n m u) t).extents x
-      c2 = subst (λ (y : RunShadow). Contains (thread_of y t).extents x) (next_is R keeps n m q) c
+      c2 = subst (λ (y : SymbolicState). Contains (thread_of y t).extents x) (next_is R keeps n m q) c
 
       go : (b : Bool) → (t == thread_in m) ≡ b → Contains (thread_of u t).extents x ⊎ Begins R n t m x
       go true f =
@@ -151,8 +151,8 @@ module _ (R : Reference) (keeps : ExtentsKeep R) (n : ℕ) (m : Moment) (q : sli
   -- the calls of the step's thread behind it
   pub lens_next : lens_of (thread_of (known_at R every (suc n)) (thread_in m)).calls ≡ lens_behind R.program (instr_in R.program m) m.did.did.kind (lens_of (thread_of u (thread_in m)).calls)
   lens_next =
-      ap (λ (y : RunShadow). lens_of (thread_of y (thread_in m)).calls) (next_is R keeps n m q)
-      ∙ ap (λ (h : ThreadShadow). lens_of h.calls) (thread_own R every n m u (begun_before R keeps n m q))
+      ap (λ (y : SymbolicState). lens_of (thread_of y (thread_in m)).calls) (next_is R keeps n m q)
+      ∙ ap (λ (h : SymbolicThread). lens_of h.calls) (thread_own R every n m u (begun_before R keeps n m q))
       ∙ ap (λ (b : Bool). lens_of (own_calls R.program every n m (region_in R m) u b (instr_in R.program m))) (live_every (thread_of u (thread_in m)).extents)
       ∙ of_calls (instr_in R.program m)
     where
@@ -180,11 +180,11 @@ none_first R zero x c = none_in x c
 none_first R (suc t) x c = none_in x c
 
 module _ (R : Reference) (keeps : ExtentsKeep R) where
-  abbrev calls_at : ℕ → ℕ → List (List Shadow)
+  abbrev calls_at : ℕ → ℕ → List (List Symbolic)
   calls_at n t = (thread_of (known_at R every n) t).calls
 
   calls_long : (n t : ℕ) → length (lens_of (calls_at n t)) ≡ length (calls_at n t)
-  calls_long n t = length-map (calls_at n t) (λ (rs : List Shadow). length rs)
+  calls_long n t = length-map (calls_at n t) (λ (rs : List Symbolic). length rs)
 
   -- behind the branch step
   first_inside : (n : ℕ) (m : Moment) → slice_get R.moments n ≡ Some m → (r : FreeRegion) → region_in R m ≡ Some r → Inside R (suc n) (thread_in m) (own_extent n (length m.calls) r)
@@ -198,7 +198,7 @@ module _ (R : Reference) (keeps : ExtentsKeep R) where
     depth = refl;
     deep = omega (arith, high, long, tall);
     count = at_lens (length m.calls) (calls_at (suc n) (thread_in m)) ∙ ap (λ (ls : List ℕ). lens_at (length m.calls) ls) lens
-        ∙ sym (at_lens (length m.calls) (calls_at n (thread_in m))) ∙ ap (λ (rs : List Shadow). length rs) (top_is (length m.calls) (calls_at n (thread_in m)) high);
+        ∙ sym (at_lens (length m.calls) (calls_at n (thread_in m))) ∙ ap (λ (rs : List Symbolic). length rs) (top_is (length m.calls) (calls_at n (thread_in m)) high);
   }
     where
       high : length (calls_at n (thread_in m)) ≡ length m.calls

@@ -1,3 +1,3 @@
-//! Sources of worked operations.
+//! Symbolic values of worked operations.
 
 mod moved;

@@ -1,13 +1,13 @@
 //! Bytes that are stored, forgotten and loaded, by hand.
 
 ghost use Rattle.std.specs.Prelude.{◌<◌, ℕ, IfOk, OnOk};
-ghost use Rattle.pg_slice_memory.specs.Changes.{AreSources};
+ghost use Rattle.pg_slice_memory.specs.Changes.{AreSymbolicNodes};
 
 use pg_ir::Program;
 use pg_ir::Value::Const;
 use pg_num::Width::{W8, W16, W32, W64};
 use pg_precondition::{CastKind, Node, Nodes};
-use pg_slice_memory::{Held, ShadowMemory};
+use pg_slice_memory::{Held, SymbolicMemory};
 use pg_slice_rules::Decision;
 use pg_test_samples::Line::Return;
 use pg_test_samples::{Body, I32, Parts, build};
@@ -47,8 +47,8 @@ struct Case {
     nodes: &'static [Node],
 }
 
-fn happens(memory: &mut ShadowMemory, act: Act) -> Result<(), AllocError>
-    ensures { OnOk result ((n : ℕ) → 0 < n → AreSources n memory.old → AreSources n memory.new) }
+fn happens(memory: &mut SymbolicMemory, act: Act) -> Result<(), AllocError>
+    ensures { OnOk result ((n : ℕ) → 0 < n → AreSymbolicNodes n memory.old → AreSymbolicNodes n memory.new) }
 {
     match act {
         Act::Store(start) => memory.store(start as u64, 8, Held::Known(0)),
@@ -59,10 +59,10 @@ fn happens(memory: &mut ShadowMemory, act: Act) -> Result<(), AllocError>
     }
 }
 
-fn after(alloc: Global, acts: &[Act]) -> Result<ShadowMemory, AllocError>
-    ensures { IfOk result (λ m. (n : ℕ) → 0 < n → AreSources n m) }
+fn after(alloc: Global, acts: &[Act]) -> Result<SymbolicMemory, AllocError>
+    ensures { IfOk result (λ m. (n : ℕ) → 0 < n → AreSymbolicNodes n m) }
 {
-    let mut memory = ShadowMemory::new(alloc);
+    let mut memory = SymbolicMemory::new(alloc);
     for act in acts {
         happens(&mut memory, *act)?;
     }
@@ -79,8 +79,13 @@ fn are_behind(nodes: &Nodes, behind: &[Node]) -> bool {
     nodes.len() as u64 == behind.len() as u64 + 1
 }
 
-fn gives(alloc: Global, p: &Program, memory: &ShadowMemory, case: &Case) -> Result<bool, AllocError>
-    requires { (n : ℕ) → 0 < n → AreSources n memory.now }
+fn gives(
+    alloc: Global,
+    p: &Program,
+    memory: &SymbolicMemory,
+    case: &Case,
+) -> Result<bool, AllocError>
+    requires { (n : ℕ) → 0 < n → AreSymbolicNodes n memory.now }
 {
     if case.count == 0 || case.count > 8 {
         return Ok(false);

@@ -5,4 +5,4 @@ mod programs;
 mod row;
 mod runs;
 mod slices;
-mod sources;
+mod symbolic_nodes;

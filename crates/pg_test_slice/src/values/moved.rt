@@ -5,12 +5,12 @@ ghost use Rattle.pg_num.specs.declared.width.Width.TheVariants.{W32, W64};
 ghost use Rattle.pg_ir.specs.declared.instr.Op.TheVariants.{Gep};
 ghost use Rattle.pg_ir.specs.declared.value.Scale.TheVariants.{Field, Times};
 ghost use Rattle.pg_ir.specs.declared.value.Value.TheVariants.{Const};
-ghost use Rattle.pg_slice_values.specs.Sources.{IsSource};
+ghost use Rattle.pg_slice_values.specs.SymbolicNodes.{IsSymbolicNode};
 
 use pg_ir::{Index, Indices, Op, Scale, Value};
 use pg_num::Width;
 use pg_precondition::{Check, Nodes, Precondition, Scratch, Test, admits};
-use pg_slice_values::{Source, constant, from_input, operation};
+use pg_slice_values::{SymbolicNode, constant, from_input, operation};
 use std::alloc::{AllocError, Global};
 use std::test::Fail;
 
@@ -40,9 +40,9 @@ fn pointer(alloc: Global) -> Result<Op, AllocError>
 }
 
 /// The pointer to the first byte of sixteen from granule 9 on, moved by the input's first number.
-#[tactic(auto, using(pg_slice_values::proofs::GrowingNodes::source_more, pg_slice_values::proofs::GrowingNodes::grew_length))]
-fn moved(alloc: Global, nodes: &mut Nodes) -> Result<Source, AllocError>
-    ensures { IfOk result (IsSource (length nodes.new)) }
+#[tactic(auto, using(pg_slice_values::proofs::GrowingNodes::symbolic_node_more, pg_slice_values::proofs::GrowingNodes::grew_length))]
+fn moved(alloc: Global, nodes: &mut Nodes) -> Result<SymbolicNode, AllocError>
+    ensures { IfOk result (IsSymbolicNode (length nodes.new)) }
 {
     let op = pointer(alloc)?;
     let zero = constant(nodes, 0)?;
@@ -52,9 +52,14 @@ fn moved(alloc: Global, nodes: &mut Nodes) -> Result<Source, AllocError>
     operation(nodes, &op, &[base, index, field])
 }
 
-/// The condition that a source is a number on the input.
-fn condition(alloc: Global, nodes: Nodes, s: Source, n: u64) -> Result<Precondition, AllocError>
-    requires { IsSource (length nodes) s }
+/// The condition that a symbolic value is a number on the input.
+fn condition(
+    alloc: Global,
+    nodes: Nodes,
+    s: SymbolicNode,
+    n: u64,
+) -> Result<Precondition, AllocError>
+    requires { IsSymbolicNode (length nodes) s }
 {
     let mut precondition = Precondition::new(alloc, nodes);
     if let Some(node) = s.word() {

@@ -1,5 +1,5 @@
 use Rattle.std.proofs.Common.{sym, ◌∙◌}
-use Rattle.pg_slice_rules.specs.Shadows.{is_within}
+use Rattle.pg_slice_rules.specs.SymbolicValues.{is_within}
 use Rattle.pg_run_trace.specs.Steps.{range_of}
 use Rattle.pg_slice_back.specs.Bytes.{is_in}
 use Rattle.pg_slice_back.specs.Leaves.{none}

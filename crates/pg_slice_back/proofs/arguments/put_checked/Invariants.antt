@@ -1,6 +1,6 @@
 use Rattle.std.proofs.Common.{◌≡◌, true}
 use Rattle.std.specs.List.{AllByRecursion}
-use Rattle.pg_slice_rules.specs.Known.{RunShadow, Seen}
+use Rattle.pg_slice_rules.specs.Known.{SymbolicState, Seen}
 use Rattle.pg_slice_rules.specs.Moments.{thread_in}
 use Rattle.pg_slice_rules.specs.Rules.{all_of, checked_of}
 use Rattle.pg_law_least.specs.Keeps.{depth_of}
@@ -11,6 +11,6 @@ use Rattle.pg_slice_back.proofs.arguments.put_checked.Given as goal
 
 abbrev pub invariant-loop-i : goal.invariant-loop-i
 invariant-loop-i l =
-    (s : RunShadow) (y : Seen) → thread_in y.moment ≡ l.at.thread → depth_of y ≡ l.at.depth
+    (s : SymbolicState) (y : Seen) → thread_in y.moment ≡ l.at.thread → depth_of y ≡ l.at.depth
     → AllByRecursion (IsMet s) (all_of (operand_demands y l.x true) (checked_of l.x.op)) → AreMet s l.initial.w →
     AreMet s l.w

@@ -1,7 +1,7 @@
 use Rattle.std.proofs.Common.{◌≡◌, Some}
 use Rattle.std.specs.List.{AllByRecursion}
 use Rattle.pg_slice_rules.specs.Freeable.{FreeRegion}
-use Rattle.pg_slice_rules.specs.Known.{RunShadow, Seen}
+use Rattle.pg_slice_rules.specs.Known.{SymbolicState, Seen}
 use Rattle.pg_slice_rules.specs.Moments.{thread_in}
 use Rattle.pg_law_least.specs.Keeps.{depth_of}
 use Rattle.pg_slice_replay.specs.Kept.{landmark_at}
@@ -13,5 +13,5 @@ use Rattle.pg_slice_back.proofs.paths.put_region.Given as goal
 
 abbrev pub invariant-loop-k : goal.invariant-loop-k
 invariant-loop-k l =
-    (m : Landmark) (q : FreeRegion) (s : RunShadow) (y : Seen) → landmark_at l.r l.n ≡ Some m → m.region ≡ Some q → thread_in y.moment ≡ l.at.thread → depth_of y ≡ l.at.depth →
+    (m : Landmark) (q : FreeRegion) (s : SymbolicState) (y : Seen) → landmark_at l.r l.n ≡ Some m → m.region ≡ Some q → thread_in y.moment ≡ l.at.thread → depth_of y ≡ l.at.depth →
     AllByRecursion (IsMet s) (region_demands y (Some q)) → AreMet s l.initial.w → AreMet s l.w

@@ -1,10 +1,10 @@
 use Rattle.std.proofs.Common.{◌≡◌, ◌+◌, suc, arith, length, sym, subst}
 use Rattle.pg_slice_rules.specs.Rules.{path_needs}
-use Rattle.pg_slice_values.specs.Sources.{shadow_by}
-use Rattle.pg_slice_values.proofs.GrowingNodes.{grew_length, grew_then, source_more}
-use Rattle.pg_slice_memory.specs.Changes.{shadows_of}
+use Rattle.pg_slice_values.specs.SymbolicNodes.{symbolic_by}
+use Rattle.pg_slice_values.proofs.GrowingNodes.{grew_length, grew_then, symbolic_node_more}
+use Rattle.pg_slice_memory.specs.Changes.{symbolics_of}
 use Rattle.pg_slice_checks.specs.Asks.{Adds}
-use Rattle.pg_slice_checks.proofs.PathLoads.{loads_more, path_ends, sources_more}
+use Rattle.pg_slice_checks.proofs.PathLoads.{loads_more, path_ends, symbolic_nodes_more}
 use Rattle.pg_slice_checks.proofs.path.path_needs.Goals as goal
 
 pub loop-i-preserved : goal.loop-i-preserved
@@ -19,7 +19,7 @@ loop-i-preserved c =
     let q : c.loop-i.i + 1 ≡ suc c.loop-i.i = omega arith in (
       grew_then c.args.nodes.now first third v.0 both,
       c.in_ok-s.ensures.is,
-      sources_more first third c.args.memory.now both v.2,
+      symbolic_nodes_more first third c.args.memory.now both v.2,
       λ ns cells done k cut rest. v.3 ns cells done (grew_then first third ns both k) cut
           (loads_more c.args.p.now c.args.memory.now c.args.offsets.now c.args.pointers.now cells c.args.last c.loop-i.i first second third ns c.loop-i.s c.in_ok-at.at c.in_ok-s.s
           c.move_word-address.result c.place_of.result
@@ -32,6 +32,6 @@ returns-clause-adds c = λ ns cells k cut.
     let v = c.loop-i.invariant in
     v.3 ns cells c.need_bounds.new.self k cut
     (subst (λ l. Adds ns l c.loop-i.asked c.need_bounds.new.self)
-    (sym (path_ends (shadows_of c.args.p.now ns c.args.memory.now) (shadow_by ns c.loop-i.s) c.args.offsets.now c.args.pointers.now cells c.args.last c.loop-i.i
+    (sym (path_ends (symbolics_of c.args.p.now ns c.args.memory.now) (symbolic_by ns c.loop-i.s) c.args.offsets.now c.args.pointers.now cells c.args.last c.loop-i.i
     (omega (arith, c.loop-i-test.false))))
-    (c.in_ok-need_bounds.ensures ns (source_more (length c.loop-i.nodes) (length ns) c.loop-i.s (grew_length c.loop-i.nodes ns k) v.1)))
+    (c.in_ok-need_bounds.ensures ns (symbolic_node_more (length c.loop-i.nodes) (length ns) c.loop-i.s (grew_length c.loop-i.nodes ns k) v.1)))

@@ -2,8 +2,8 @@ use Rattle.std.proofs.Common.{List, drop, length}
 use Rattle.pg_num.specs.Places.{ByteRange}
 use Rattle.pg_precondition.specs.Nodes.{NodeList}
 use Rattle.pg_slice_rules.specs.Rules.{path_needs}
-use Rattle.pg_slice_values.specs.Sources.{Grew, IsSource, shadow_by}
-use Rattle.pg_slice_memory.specs.Changes.{AreSources, shadows_of}
+use Rattle.pg_slice_values.specs.SymbolicNodes.{Grew, IsSymbolicNode, symbolic_by}
+use Rattle.pg_slice_memory.specs.Changes.{AreSymbolicNodes, symbolics_of}
 use Rattle.pg_slice_checks.specs.Asks.{Adds}
 use Rattle.pg_slice_checks.specs.Paths.{AreCells}
 use Rattle.pg_slice_checks.specs.declared.asked.Asked.{Asked}
@@ -13,8 +13,8 @@ use Rattle.pg_slice_checks.proofs.path.path_needs.Given as goal
 abbrev pub invariant-loop-i : goal.invariant-loop-i
 invariant-loop-i l =
     Grew l.initial.nodes l.nodes
-    × IsSource (length l.nodes) l.s
-    × AreSources (length l.nodes) l.memory
+    × IsSymbolicNode (length l.nodes) l.s
+    × AreSymbolicNodes (length l.nodes) l.memory
     × ((ns : NodeList) (cells : List ByteRange) (done : Asked) → Grew l.nodes ns → AreCells l.offsets l.pointers cells →
-    Adds ns (path_needs (shadows_of l.p ns l.memory) (shadow_by ns l.s) (drop l.i l.offsets) (drop l.i l.pointers) (drop l.i cells) l.last) l.asked done →
-    Adds ns (path_needs (shadows_of l.p ns l.memory) (shadow_by ns l.initial.s) l.offsets l.pointers cells l.last) l.initial.asked done)
+    Adds ns (path_needs (symbolics_of l.p ns l.memory) (symbolic_by ns l.s) (drop l.i l.offsets) (drop l.i l.pointers) (drop l.i cells) l.last) l.asked done →
+    Adds ns (path_needs (symbolics_of l.p ns l.memory) (symbolic_by ns l.initial.s) l.offsets l.pointers cells l.last) l.initial.asked done)

@@ -1,7 +1,7 @@
 use Rattle.std.proofs.Common.{ap, ◌∙◌, sym, ◌∷◌, [], subst, true, false, ◌≡◌}
 use Rattle.pg_precondition.specs.declared.check.Test.TheVariants as test
 use Rattle.pg_slice_rules.specs.Rules.{Value, edge_tests, is_case}
-use Rattle.pg_slice_values.specs.Sources.{shadow_by}
+use Rattle.pg_slice_values.specs.SymbolicNodes.{symbolic_by}
 use Rattle.pg_slice_checks.specs.Asks.{Adds}
 use Rattle.pg_slice_checks.proofs.AskedByCases.{case_tests, default_tests, other_tests}
 use Rattle.pg_slice_checks.proofs.step.branch_needs.Goals as goal
@@ -10,7 +10,7 @@ use Rattle.pg_slice_checks.proofs.step.branch_needs.Goals.{in-Switch+else-not-is
 pub returns-then-not-is_case : goal.returns-then-not-is_case
 returns-then-not-is_case c = λ ns h.
     let other : is_case c.args.condition c.in-Switch.cases ≡ false = ap (λ l. is_case c.args.condition l) (sym c.as_slice.ensures.items) ∙ sym c.is_case.ensures ∙ c.if-not-is_case.true in
-    rw c.in-Switch.is (subst (λ ts. Adds ns (Value (shadow_by ns c.args.on) ts ∷ []) c.args.asked.now c.need_none.new.self)
+    rw c.in-Switch.is (subst (λ ts. Adds ns (Value (symbolic_by ns c.args.on) ts ∷ []) c.args.asked.now c.need_none.new.self)
     (sym (default_tests c.in-Switch.width c.in-Switch.on c.in-Switch.other c.in-Switch.cases c.args.condition other))
     (rw c.as_slice-then-not-is_case.ensures.items at (c.in_ok-need_none.ensures ns h)))
 
@@ -22,4 +22,4 @@ returns c = λ ns h.
           ap (λ o. edge_tests o c.args.condition) w.in-Switch.is ∙ case_tests w.in-Switch.width w.in-Switch.on w.in-Switch.other w.in-Switch.cases c.args.condition one
       | in_default w ↦ other_tests c.args.op.now c.args.condition w.in_default.not-Switch
     ] in
-    subst (λ ts. Adds ns (Value (shadow_by ns c.args.on) ts ∷ []) c.args.asked.now c.need_value.new.self) (sym tests) (c.in_ok-need_value.ensures ns h)
+    subst (λ ts. Adds ns (Value (symbolic_by ns c.args.on) ts ∷ []) c.args.asked.now c.need_value.new.self) (sym tests) (c.in_ok-need_value.ensures ns h)

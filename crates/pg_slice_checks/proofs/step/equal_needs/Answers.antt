@@ -1,7 +1,7 @@
 use Rattle.std.proofs.Common.{map, ◌∷◌, [], ◌≡◌, sym, subst, arith, length, slice_index}
 use Rattle.pg_precondition.specs.declared.check.Test.TheVariants as test
 use Rattle.pg_slice_rules.specs.Rules.{Value}
-use Rattle.pg_slice_values.specs.Sources.{shadow_by}
+use Rattle.pg_slice_values.specs.SymbolicNodes.{symbolic_by}
 use Rattle.pg_slice_checks.specs.Asks.{Adds}
 use Rattle.pg_slice_checks.specs.Steps.{at, below, equal_needs}
 use Rattle.pg_slice_checks.proofs.OneNeedMore.{adds_then}
@@ -10,7 +10,7 @@ use Rattle.pg_slice_checks.proofs.step.equal_needs.Goals as goal
 
 pub loop-k-preserved : goal.loop-k-preserved
 loop-k-preserved c = λ ns h.
-    let ss = map (shadow_by ns) c.args.operands.now in
+    let ss = map (symbolic_by ns) c.args.operands.now in
     let e = c.args.event.now in
     let k = c.loop-k.k in
     let one = subst (λ s. Adds ns (Value s (test.Eq (slice_index e.operands k) ∷ []) ∷ []) c.loop-k.asked c.need_value.new.self) (sym (c.operand.ensures.value ns))

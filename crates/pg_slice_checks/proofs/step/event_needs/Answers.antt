@@ -1,5 +1,5 @@
 use Rattle.std.proofs.Common.{map, ap, subst, sym, ◌∙◌}
-use Rattle.pg_slice_values.specs.Sources.{shadow_by}
+use Rattle.pg_slice_values.specs.SymbolicNodes.{symbolic_by}
 use Rattle.pg_slice_checks.specs.Asks.{Adds}
 use Rattle.pg_slice_checks.specs.Steps.{equal_needs}
 use Rattle.pg_slice_checks.proofs.EventOperands.{enough, event_by, few}
@@ -13,7 +13,7 @@ equal_needs-requires-clause-enough c = enough c.args.op.now c.checked_of-count.r
 
 pub returns : goal.returns
 returns c = λ ns h.
-    let ss = map (shadow_by ns) c.args.operands.now in
+    let ss = map (symbolic_by ns) c.args.operands.now in
     let other = sym c.is_start.ensures ∙ c.if-is_start.false in
     subst (λ l. Adds ns l c.args.asked.now c.equal_needs.new.asked)
     (sym (event_by ss c.args.op.now c.args.event.now c.args.event.now.kind other ∙ ap (λ ks. equal_needs ss c.args.event.now ks) c.checked_of-count.ensures)) (c.in_ok-equal_needs.ensures ns h)

@@ -1,7 +1,7 @@
 use Rattle.std.proofs.Common.{map, ap, subst, sym, ◌∙◌, ◌∷◌, [], length}
 use Rattle.pg_precondition.specs.declared.check.Test.TheVariants as test
 use Rattle.pg_slice_rules.specs.Rules.{Value, address_index, edge_tests}
-use Rattle.pg_slice_values.specs.Sources.{shadow_by}
+use Rattle.pg_slice_values.specs.SymbolicNodes.{symbolic_by}
 use Rattle.pg_slice_checks.specs.Asks.{Adds}
 use Rattle.pg_slice_checks.specs.Steps.{at}
 use Rattle.pg_slice_checks.proofs.AskedByCases.{or_either}
@@ -17,7 +17,7 @@ pub returns-in_ok-need_value-in-Access : goal.returns-in_ok-need_value-in-Access
 returns-in_ok-need_value-in-Access c = λ ns h.
     rw c.in-Access.is (rw (or_either c.in-Access.access.event c.args.fixed c.then-access.either)
     (subst (λ s. Adds ns (Value s (test.Eq c.in-Access.access.pointer ∷ []) ∷ []) c.args.asked.now c.need_value.new.self)
-    (sym (ap (λ k. at (map (shadow_by ns) c.args.operands.now) k) (sym c.address_index.ensures) ∙ c.operand-at.ensures.value ns))
+    (sym (ap (λ k. at (map (symbolic_by ns) c.args.operands.now) k) (sym c.address_index.ensures) ∙ c.operand-at.ensures.value ns))
     (c.in_ok-need_value-in-Access.ensures ns (c.operand-at.ensures.is (length ns) h))))
 
 pub returns-in_ok-need_value-in-Allocation : goal.returns-in_ok-need_value-in-Allocation

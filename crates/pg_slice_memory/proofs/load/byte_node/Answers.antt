@@ -1,7 +1,7 @@
 use Rattle.std.proofs.Common.{arith, sym, subst}
-use Rattle.pg_slice_memory.specs.declared.source.ByteSource.{ByteSource}
+use Rattle.pg_slice_memory.specs.declared.symbolic_node.SymbolicByte.{SymbolicByte}
 use Rattle.pg_slice_memory.specs.Loads.{IsByteNode}
-use Rattle.pg_slice_memory.specs.Sources.{byte_shadow}
+use Rattle.pg_slice_memory.specs.SymbolicNodes.{byte_symbolic}
 use Rattle.pg_slice_memory.proofs.ReadBytes.{initial_node, ok_both, part_node}
 use Rattle.pg_slice_memory.proofs.load.byte_node.Goals as goal
 
@@ -12,7 +12,7 @@ returns-in-Initial-clause-node c =
     let ms = c.added.new.nodes in
     let b = c.args.byte in
     ok_both c.added.result _ _ _
-    (λ k below value. subst (λ (s : ByteSource). IsByteNode ms k (byte_shadow p ns b s)) (sym c.in-Initial.is)
+    (λ k below value. subst (λ (s : SymbolicByte). IsByteNode ms k (byte_symbolic p ns b s)) (sym c.in-Initial.is)
     (initial_node p ns ms b c.initial_byte.result k c.initial_byte.ensures (omega (arith, c.initial_byte.type_inv)) below value))
     c.added.ensures.is c.added.ensures.value
 
@@ -23,5 +23,5 @@ returns-in-Part-clause-node c =
     let ms = c.added-in-Part.new.nodes in
     let b = c.args.byte in
     ok_both c.added-in-Part.result _ _ _
-    (λ k below value. subst (λ (s : ByteSource). IsByteNode ms k (byte_shadow p ns b s)) (sym c.in-Part.is) (part_node p ns ms b c.in-Part.of c.in-Part.at k below value))
+    (λ k below value. subst (λ (s : SymbolicByte). IsByteNode ms k (byte_symbolic p ns b s)) (sym c.in-Part.is) (part_node p ns ms b c.in-Part.of c.in-Part.at k below value))
     c.added-in-Part.ensures.is c.added-in-Part.ensures.value

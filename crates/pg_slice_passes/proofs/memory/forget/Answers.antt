@@ -1,7 +1,7 @@
 use Rattle.std.proofs.Common.{◌≤◌, length, refl, sym, ◌∙◌, arith}
 use Rattle.pg_slice_rules.specs.declared.decision.Decision.TheVariants.{Pinned}
 use Rattle.pg_slice_replay.specs.Kept.{landmark_at}
-use Rattle.pg_slice_memory.specs.Changes.{shadows_of}
+use Rattle.pg_slice_memory.specs.Changes.{symbolics_of}
 use Rattle.pg_slice_passes.proofs.StoredBytes.{none_left}
 use Rattle.pg_slice_passes.proofs.KeptKnowledge.{if_some_all, if_some_from}
 use Rattle.pg_slice_passes.proofs.memory.forget.Goals as goal
@@ -25,4 +25,4 @@ returns-clause-value c p ns =
     if_some_from (landmark_at c.args.r.now c.args.n) _ (λ l e. if_some_from l.region _ (λ f q.
     let count = rw q at (rw e at c.access_count-k-end.ensures.count) in
     let all : length f.accesses ≤ k = omega (arith, count, c.loop-k-test.false) in
-    sym (none_left f.accesses k (Pinned c.args.n) (shadows_of p ns c.loop-k.memory) all) ∙ rw q at (rw e at (c.loop-k.invariant.value p ns))))
+    sym (none_left f.accesses k (Pinned c.args.n) (symbolics_of p ns c.loop-k.memory) all) ∙ rw q at (rw e at (c.loop-k.invariant.value p ns))))

@@ -3,7 +3,7 @@ use Rattle.std.specs.Prelude.{◌%◌}
 use Rattle.std.proofs.lemmas.Result.{IfOk-weaker}
 use Rattle.pg_num.specs.Numbers.{modulus}
 use Rattle.pg_slice_rules.specs.Known.{load_of}
-use Rattle.pg_slice_rules.specs.Shadows as shadows
+use Rattle.pg_slice_rules.specs.SymbolicValues as symbolics
 use Rattle.pg_slice_memory.specs.Changes as bytes
 use Rattle.pg_slice_passes.proofs.memory.load.Goals as goal
 
@@ -14,9 +14,9 @@ pub returns-clause-value : goal.returns-clause-value
 returns-clause-value c =
     let w = c.args.width in
     let a = c.args.a in
-    let memory = bytes.shadows_of c.args.p.now c.args.nodes.now c.args.memory.now in
+    let memory = bytes.symbolics_of c.args.p.now c.args.nodes.now c.args.memory.now in
     IfOk-weaker c.within.result _ _ (λ r e.
     e
-    ∙ ap (λ (x : shadows.Shadow). shadows.cut (λ k. k % modulus w) x)
-    (c.loaded.ensures.value c.load.new.nodes ∙ c.in_ok-number.ensures.value ∙ ap (λ (s : ℕ). shadows.loaded memory s a.bytes) c.place_of.ensures.place)
+    ∙ ap (λ (x : symbolics.Symbolic). symbolics.cut (λ k. k % modulus w) x)
+    (c.loaded.ensures.value c.load.new.nodes ∙ c.in_ok-number.ensures.value ∙ ap (λ (s : ℕ). symbolics.loaded memory s a.bytes) c.place_of.ensures.place)
     ∙ sym (ap (λ (b : Bool). load_of b c.args.n w a memory) c.if-not-exact.false)) c.within.ensures.value

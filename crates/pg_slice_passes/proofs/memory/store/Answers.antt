@@ -2,12 +2,12 @@ use Rattle.std.proofs.Common.{ℕ, Bool, length, ap, sym, ◌∙◌}
 use Rattle.std.proofs.lemmas.Result.{on_ok_weaker}
 use Rattle.pg_ir.specs.declared.instr.Op.TheVariants as op
 use Rattle.pg_slice_rules.specs.Known.{bytes_stored}
-use Rattle.pg_slice_rules.specs.Shadows.{shadow_of}
+use Rattle.pg_slice_rules.specs.SymbolicValues.{symbolic_of}
 use Rattle.pg_slice_rules.specs.declared.decision.Decision.TheVariants.{Exact}
 use Rattle.pg_slice_values.proofs.GrowingNodes.{grew_length}
-use Rattle.pg_slice_memory.specs.Changes.{shadows_of}
+use Rattle.pg_slice_memory.specs.Changes.{symbolics_of}
 use Rattle.pg_slice_memory.proofs.ByteNodes.{names_more}
-use Rattle.pg_slice_registers.specs.Sourced.{registers_by}
+use Rattle.pg_slice_registers.specs.SymbolicRegisterNodes.{registers_by}
 use Rattle.pg_slice_passes.proofs.StoredBytes.{bounds_spoiled, number_stored}
 use Rattle.pg_slice_passes.proofs.memory.store.Goals as goal
 
@@ -25,11 +25,11 @@ returns-in_ok-s-clause-value c w at b =
     let p = c.args.p.now in
     let a = c.args.a in
     let rs = registers_by old c.args.registers.now in
-    let before = shadows_of p old c.args.memory.now in
+    let before = symbolics_of p old c.args.memory.now in
     on_ok_weaker c.store.result (λ f.
-    number_stored p old new c.args.memory.now c.store.new.self c.place_of.result _ a.bytes c.held.result c.in_ok-s.s (shadow_of p rs c.args.v) b c.value.ensures.grew c.requires.names
+    number_stored p old new c.args.memory.now c.store.new.self c.place_of.result _ a.bytes c.held.result c.in_ok-s.s (symbolic_of p rs c.args.v) b c.value.ensures.grew c.requires.names
     (f p new) c.place_of.ensures.place (c.held.ensures.bytes new) c.in_ok-s.ensures.value
-    ∙ sym (ap (λ (k : Bool). bytes_stored p k c.args.n a rs (op.Store w c.args.v at) before b) c.if-known.true)) c.store.ensures.shadow
+    ∙ sym (ap (λ (k : Bool). bytes_stored p k c.args.n a rs (op.Store w c.args.v at) before b) c.if-known.true)) c.store.ensures.symbolic
 
 pub returns-else-known-clause-is : goal.returns-else-known-clause-is
 returns-else-known-clause-is c = on_ok_weaker c.spoil.result (λ f. f (length c.args.nodes.now) c.requires.names) c.spoil.ensures.names
@@ -43,4 +43,4 @@ returns-else-known-clause-value c w at b =
     on_ok_weaker c.spoil.result (λ f.
     ap (λ (g : ℕ → _). g b) (bounds_spoiled p old c.args.memory.now c.spoil.new.self c.bounds-f.result.start c.bounds-f.result.bytes a.pointer (Exact c.args.n)
     (f p old) c.bounds-f.ensures.start c.bounds-f.ensures.bytes)
-    ∙ sym (ap (λ (k : Bool). bytes_stored p k c.args.n a rs (op.Store w c.args.v at) (shadows_of p old c.args.memory.now) b) c.if-known.false)) c.spoil.ensures.shadow
+    ∙ sym (ap (λ (k : Bool). bytes_stored p k c.args.n a rs (op.Store w c.args.v at) (symbolics_of p old c.args.memory.now) b) c.if-known.false)) c.spoil.ensures.symbolic

@@ -1,10 +1,10 @@
 use Rattle.std.proofs.Common.{Option, length, ap, sym, ◌∙◌}
 use Rattle.std.proofs.lemmas.Result.{on_ok_weaker}
-use Rattle.pg_slice_rules.specs.Known.{bytes_by, written_shadow}
+use Rattle.pg_slice_rules.specs.Known.{bytes_by, written_symbolic}
 use Rattle.pg_slice_values.proofs.GrowingNodes.{grew_length}
-use Rattle.pg_slice_memory.specs.Changes.{shadows_of}
+use Rattle.pg_slice_memory.specs.Changes.{symbolics_of}
 use Rattle.pg_slice_memory.proofs.ByteNodes.{names_more}
-use Rattle.pg_slice_registers.specs.Sourced.{registers_by}
+use Rattle.pg_slice_registers.specs.SymbolicRegisterNodes.{registers_by}
 use Rattle.pg_slice_passes.proofs.StoredBytes.{number_stored}
 use Rattle.pg_run_trace.specs.declared.step.Write.{Write}
 use Rattle.pg_slice_passes.proofs.memory.write.Goals as goal
@@ -23,6 +23,6 @@ returns-in_ok-s-in-Some-clause-value c p b =
     let e = c.args.e.now in
     on_ok_weaker c.store.result (λ f.
     number_stored p old new c.args.memory.now c.store.new.self c.place_of.result _ 8 c.held.result c.in_ok-s-in-Some.s
-    (written_shadow e c.in-Some.w e.kind (registers_by old c.args.words.now)) b c.written.ensures.grew c.requires.names (f p new) c.place_of.ensures.place
+    (written_symbolic e c.in-Some.w e.kind (registers_by old c.args.words.now)) b c.written.ensures.grew c.requires.names (f p new) c.place_of.ensures.place
     (c.held.ensures.bytes new) c.in_ok-s-in-Some.ensures.value
-    ∙ sym (ap (λ (o : Option Write). bytes_by e o (registers_by old c.args.words.now) (shadows_of p old c.args.memory.now) b) c.in-Some.is)) c.store.ensures.shadow
+    ∙ sym (ap (λ (o : Option Write). bytes_by e o (registers_by old c.args.words.now) (symbolics_of p old c.args.memory.now) b) c.in-Some.is)) c.store.ensures.symbolic

@@ -1,11 +1,11 @@
 use Rattle.std.proofs.Common.{◌≡◌, ℕ, ◌≤◌, List, length, take, arith, sym, ap, ◌∙◌}
-use Rattle.pg_slice_rules.specs.Rules.{root_shadow}
-use Rattle.pg_slice_rules.specs.Shadows.{Shadow}
+use Rattle.pg_slice_rules.specs.Rules.{root_symbolic}
+use Rattle.pg_slice_rules.specs.SymbolicValues.{Symbolic}
 use Rattle.pg_slice_replay.specs.Paths.{cells_of}
 use Rattle.pg_slice_memory.specs.Changes as bytes
 use Rattle.pg_slice_memory.proofs.ByteNodes.{names_more}
-use Rattle.pg_slice_registers.specs.Sourced.{registers_by}
-use Rattle.pg_slice_values.specs.Sources.{shadow_by}
+use Rattle.pg_slice_registers.specs.SymbolicRegisterNodes.{registers_by}
+use Rattle.pg_slice_values.specs.SymbolicNodes.{symbolic_by}
 use Rattle.pg_slice_values.proofs.GrowingNodes.{grew_length, grew_then}
 use Rattle.pg_slice_passes.proofs.AddedNodes.{cells_are, later, path_adds}
 use Rattle.pg_slice_passes.proofs.needs.access_needs.Goals as goal
@@ -33,7 +33,7 @@ returns-clause-adds c = λ ns a g q.
     let many = c.first-pointers.ensures.count in
     let l : length offsets ≤ length pointers = omega (arith, few, many) in
     let from = c.in_ok-from.from in
-    let r = later (λ (rs : List Shadow). root_shadow p rs access.path.root) n0 n1 ns from regs c.root.ensures.grew
+    let r = later (λ (rs : List Symbolic). root_symbolic p rs access.path.root) n0 n1 ns from regs c.root.ensures.grew
     (grew_then n1 c.path_needs.new.nodes ns c.path_needs.ensures.grew g) c.in_ok-from.ensures.is c.requires.registers c.in_ok-from.ensures.value in
-    path_adds p ns (bytes.shadows_of p ns c.args.frame.now.memory.now) (registers_by ns regs) (shadow_by ns from) access offsets pointers c.args.asked.now c.path_needs.new.asked e f l r
+    path_adds p ns (bytes.symbolics_of p ns c.args.frame.now.memory.now) (registers_by ns regs) (symbolic_by ns from) access offsets pointers c.args.asked.now c.path_needs.new.asked e f l r
     (c.in_ok-path_needs.ensures.adds ns (cells_of pointers offsets) g (cells_are offsets pointers l)) a q

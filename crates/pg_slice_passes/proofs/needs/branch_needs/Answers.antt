@@ -1,12 +1,12 @@
 use Rattle.std.proofs.Common.{List, ◌∷◌, [], subst, sym, arith}
-use Rattle.pg_slice_rules.specs.Known.{operand_at, operand_shadows}
+use Rattle.pg_slice_rules.specs.Known.{operand_at, operand_symbolics}
 use Rattle.pg_slice_rules.specs.Rules.{Need}
-use Rattle.pg_slice_rules.specs.Shadows.{Shadow}
+use Rattle.pg_slice_rules.specs.SymbolicValues.{Symbolic}
 use Rattle.pg_slice_checks.specs.Asks.{Adds}
 use Rattle.pg_slice_checks.specs.Steps.{AreEnough, step_needs}
 use Rattle.pg_slice_checks.proofs.OneNeedMore.{adds_none}
-use Rattle.pg_slice_registers.specs.Sourced.{registers_by}
-use Rattle.pg_slice_values.specs.Sources.{shadow_by}
+use Rattle.pg_slice_registers.specs.SymbolicRegisterNodes.{registers_by}
+use Rattle.pg_slice_values.specs.SymbolicNodes.{symbolic_by}
 use Rattle.pg_run_trace.specs.declared.step.StepKind.{StepKind}
 use Rattle.pg_slice_passes.proofs.AddedNodes.{is_later, later}
 use Rattle.pg_slice_passes.proofs.OperandNeeds.{branch_asked, branch_same}
@@ -14,7 +14,7 @@ use Rattle.pg_slice_passes.proofs.needs.branch_needs.Goals as goal
 
 pub returns-then-not-fixed-clause-adds : goal.returns-then-not-fixed-clause-adds
 returns-then-not-fixed-clause-adds c = λ ns g.
-    let ss = operand_shadows c.args.s.now.p.now (registers_by ns c.args.s.now.registers.now) c.args.s.now.op.now in
+    let ss = operand_symbolics c.args.s.now.p.now (registers_by ns c.args.s.now.registers.now) c.args.s.now.op.now in
     subst (λ (y : StepKind). Adds ns (step_needs c.args.fixed ss c.args.s.now.op.now y) c.args.asked.now c.args.asked.now) (sym c.requires.kind.1)
     (rw c.if-not-fixed.true (adds_none ns c.args.asked.now))
 
@@ -34,7 +34,7 @@ returns-clause-adds c = λ ns g.
     let second = c.operand.new.nodes in
     let k = c.requires.kind in
     let is = is_later second ns s g c.in_ok-on.ensures.is in
-    let e = later (λ (rs : List Shadow). operand_at p rs o 0) first second ns s regs c.operand.ensures.grew g c.in_ok-on.ensures.is c.requires.sources c.in_ok-on.ensures.value in
-    subst (λ (y : StepKind). Adds ns (step_needs c.args.fixed (operand_shadows p (registers_by ns regs) o) o y) c.args.asked.now c.step_needs.new.asked) (sym k.1)
-    (subst (λ (needs : List Need). Adds ns needs c.args.asked.now c.step_needs.new.asked) (branch_same c.args.fixed (shadow_by ns s) (operand_shadows p (registers_by ns regs) o) o k.0 e)
-    (subst (λ (y : StepKind). Adds ns (step_needs c.args.fixed (shadow_by ns s ∷ []) o y) c.args.asked.now c.step_needs.new.asked) k.1 (c.in_ok-step_needs.ensures ns (is, tt))))
+    let e = later (λ (rs : List Symbolic). operand_at p rs o 0) first second ns s regs c.operand.ensures.grew g c.in_ok-on.ensures.is c.requires.symbolic_nodes c.in_ok-on.ensures.value in
+    subst (λ (y : StepKind). Adds ns (step_needs c.args.fixed (operand_symbolics p (registers_by ns regs) o) o y) c.args.asked.now c.step_needs.new.asked) (sym k.1)
+    (subst (λ (needs : List Need). Adds ns needs c.args.asked.now c.step_needs.new.asked) (branch_same c.args.fixed (symbolic_by ns s) (operand_symbolics p (registers_by ns regs) o) o k.0 e)
+    (subst (λ (y : StepKind). Adds ns (step_needs c.args.fixed (symbolic_by ns s ∷ []) o y) c.args.asked.now c.step_needs.new.asked) k.1 (c.in_ok-step_needs.ensures ns (is, tt))))

@@ -12,17 +12,17 @@ use Rattle.pg_slice_replay.specs.Kept.{landmark_at}
 use Rattle.pg_slice_replay.specs.Landmarks.{Landmark, landmark_of}
 use Rattle.pg_slice_memory.specs.Changes as bytes
 use Rattle.pg_slice_memory.proofs.ByteNodes.{names_more}
-use Rattle.pg_slice_registers.specs.Sourced.{AreSources, registers_by}
-use Rattle.pg_slice_registers.proofs.KeptValues.{sources_kept}
-use Rattle.pg_slice_values.specs.declared.source.Source.{Source}
+use Rattle.pg_slice_registers.specs.SymbolicRegisterNodes.{AreSymbolicNodes, registers_by}
+use Rattle.pg_slice_registers.proofs.KeptValues.{symbolic_nodes_kept}
+use Rattle.pg_slice_values.specs.declared.symbolic_node.SymbolicNode.{SymbolicNode}
 use Rattle.pg_slice_values.proofs.GrowingNodes.{grew_length, grew_none, grew_then}
 use Rattle.pg_run_trace.specs.declared.step.Step.{Step}
 use Rattle.pg_slice_passes.specs.Along.{needs_at, own_asks}
 use Rattle.pg_slice_passes.specs.Passes.{IsAt}
-use Rattle.pg_slice_passes.specs.State.{sources_in}
+use Rattle.pg_slice_passes.specs.State.{symbolic_nodes_in}
 use Rattle.pg_slice_passes.proofs.OneStepMore.{named_more}
 use Rattle.pg_slice_passes.proofs.RegionFootprints.{is_there, none_added}
-use Rattle.pg_slice_passes.proofs.StepReads.{checks_at, checks_dead, live_adds, live_is, named_by, nothing_own, own_live, region_of_it, sources_at, told_at}
+use Rattle.pg_slice_passes.proofs.StepReads.{checks_at, checks_dead, live_adds, live_is, named_by, nothing_own, own_live, region_of_it, symbolic_nodes_at, told_at}
 use Rattle.pg_slice_passes.proofs.needs.needs.Goals as goal
 
 pub returns-then-not-is_live-clause-missing : goal.returns-then-not-is_live-clause-missing
@@ -39,21 +39,21 @@ returns-then-not-is_live-clause-checks c = λ R y ns input g at.
     (c.is_live.ensures c.args.p.now c.args.nodes.now d.pinned y.before at.before) ∙ c.if-not-is_live.true in
     checks_dead R d y ns c.args.asked.now.checks.items input dead
 
-pub operand_needs-requires-clause-sources : goal.operand_needs-requires-clause-sources
-operand_needs-requires-clause-sources c =
-    subst (λ (l : List Source). AreSources (length c.args.nodes.now) l) (sym c.registers-registers.ensures)
-    (sources_at (length c.args.nodes.now) c.args.s.now c.args.step.now.thread.0 c.requires.sources)
+pub operand_needs-requires-clause-symbolic_nodes : goal.operand_needs-requires-clause-symbolic_nodes
+operand_needs-requires-clause-symbolic_nodes c =
+    subst (λ (l : List SymbolicNode). AreSymbolicNodes (length c.args.nodes.now) l) (sym c.registers-registers.ensures)
+    (symbolic_nodes_at (length c.args.nodes.now) c.args.s.now c.args.step.now.thread.0 c.requires.symbolic_nodes)
 
 pub region_needs-requires-clause-registers : goal.region_needs-requires-clause-registers
 region_needs-requires-clause-registers c =
-    subst (λ (l : List Source). AreSources (length c.operand_needs.new.nodes) l) (sym c.registers-registers.ensures)
-    (sources_kept c.args.nodes.now c.operand_needs.new.nodes (sources_in c.args.s.now c.args.step.now.thread.0) c.operand_needs.ensures.grew
-    (sources_at (length c.args.nodes.now) c.args.s.now c.args.step.now.thread.0 c.requires.sources))
+    subst (λ (l : List SymbolicNode). AreSymbolicNodes (length c.operand_needs.new.nodes) l) (sym c.registers-registers.ensures)
+    (symbolic_nodes_kept c.args.nodes.now c.operand_needs.new.nodes (symbolic_nodes_in c.args.s.now c.args.step.now.thread.0) c.operand_needs.ensures.grew
+    (symbolic_nodes_at (length c.args.nodes.now) c.args.s.now c.args.step.now.thread.0 c.requires.symbolic_nodes))
 
 pub region_needs-requires-clause-names : goal.region_needs-requires-clause-names
 region_needs-requires-clause-names c =
     names_more (length c.args.nodes.now) (length c.operand_needs.new.nodes) c.args.s.now.memory
-    (grew_length c.args.nodes.now c.operand_needs.new.nodes c.operand_needs.ensures.grew) c.requires.sources.bytes
+    (grew_length c.args.nodes.now c.operand_needs.new.nodes c.operand_needs.ensures.grew) c.requires.symbolic_nodes.bytes
 
 pub returns-clause-missing : goal.returns-clause-missing
 returns-clause-missing c = λ R y at.
@@ -70,7 +70,7 @@ returns-clause-missing c = λ R y at.
     let new = c.region_needs.new.asked in
     let regs = c.registers-registers.result.now in
     let rest = told_at a.p.now ns ns regs a.s.now.memory between new (landmark_at a.r.now a.n) (grew_none ns ns refl) c.in_ok-region_needs.ensures.adds in
-    let added = live_adds R d a.p.now a.nodes.now a.s.now a.r.now a.n a.step.now a.x.now y at ns g c.requires.sources regs c.registers-registers.ensures c.is_fixed.result c.is_fixed.ensures alive
+    let added = live_adds R d a.p.now a.nodes.now a.s.now a.r.now a.n a.step.now a.x.now y at ns g c.requires.symbolic_nodes regs c.registers-registers.ensures c.is_fixed.result c.is_fixed.ensures alive
     mid between new
     (c.in_ok-operand_needs.ensures.adds ns g2) rest in
     let region = region_of a.p.now R.regions y.moment (instr_in a.p.now y.moment) in
@@ -96,7 +96,7 @@ returns-clause-checks c = λ R y ns input to at.
     let between = c.operand_needs.new.asked in
     let new = c.region_needs.new.asked in
     let rest = told_at a.p.now n2 ns regs a.s.now.memory between new (landmark_at a.r.now a.n) to c.in_ok-region_needs.ensures.adds in
-    let added = live_adds R d a.p.now a.nodes.now a.s.now a.r.now a.n a.step.now a.x.now y at ns g c.requires.sources regs c.registers-registers.ensures c.is_fixed.result c.is_fixed.ensures alive
+    let added = live_adds R d a.p.now a.nodes.now a.s.now a.r.now a.n a.step.now a.x.now y at ns g c.requires.symbolic_nodes regs c.registers-registers.ensures c.is_fixed.result c.is_fixed.ensures alive
     mid between new
     (c.in_ok-operand_needs.ensures.adds ns g2) rest in
     checks_at R d y ns mid.checks.items new.checks.items input (added.checks input)
@@ -113,5 +113,5 @@ returns-clause-named c = λ h.
     let regs = c.registers-registers.result.now in
     let first = c.in_ok-operand_needs.ensures.adds ns g2 in
     let rest = told_at a.p.now ns ns regs a.s.now.memory between new (landmark_at a.r.now a.n) (grew_none ns ns refl) c.in_ok-region_needs.ensures.adds in
-    named_by a.p.now ns a.step.now (registers_by ns regs) (bytes.shadows_of a.p.now ns a.s.now.memory) (landmark_at a.r.now a.n) between new (is_there a.r.now a.n c.requires.number) rest
+    named_by a.p.now ns a.step.now (registers_by ns regs) (bytes.symbolics_of a.p.now ns a.s.now.memory) (landmark_at a.r.now a.n) between new (is_there a.r.now a.n c.requires.number) rest
     (first.named (named_more (length a.nodes.now) (length ns) a.asked.now.checks.items (grew_length a.nodes.now ns g) h))

@@ -1,11 +1,11 @@
 use Rattle.std.proofs.Common.{false, subst, sym}
 use Rattle.std.specs.Prelude.{IfOk}
 use Rattle.pg_precondition.specs.Nodes.{NodeList}
-use Rattle.pg_slice_rules.specs.Known.{operand_shadows}
+use Rattle.pg_slice_rules.specs.Known.{operand_symbolics}
 use Rattle.pg_slice_checks.specs.Asks.{Adds}
 use Rattle.pg_slice_checks.specs.Steps.{step_needs}
-use Rattle.pg_slice_registers.specs.Sourced.{registers_by}
-use Rattle.pg_slice_values.specs.Sources.{Grew}
+use Rattle.pg_slice_registers.specs.SymbolicRegisterNodes.{registers_by}
+use Rattle.pg_slice_values.specs.SymbolicNodes.{Grew}
 use Rattle.pg_run_trace.specs.declared.step.StepKind.{StepKind}
 use Rattle.pg_slice_passes.specs.Given.{FitsKind}
 use Rattle.pg_slice_passes.proofs.needs.operand_needs.Goals as goal
@@ -22,7 +22,7 @@ event_needs-requires-clause-kind c = let f = subst (λ (k : StepKind). FitsKind 
 pub returns-in-Allocation-clause-adds : goal.returns-in-Allocation-clause-adds
 returns-in-Allocation-clause-adds c =
     let o = c.args.s.now.op.now in
-    let ss = λ (ns : NodeList). operand_shadows c.args.s.now.p.now (registers_by ns c.args.s.now.registers.now) o in
+    let ss = λ (ns : NodeList). operand_symbolics c.args.s.now.p.now (registers_by ns c.args.s.now.registers.now) o in
     subst (λ (k : StepKind). IfOk c.size_needs.result (λ u. (ns : NodeList) → Grew c.size_needs.new.nodes ns
     → Adds ns (step_needs c.args.fixed (ss ns) o k) c.args.asked.now c.size_needs.new.asked)) (sym c.in-Allocation.is)
     (subst (λ (k : StepKind). IfOk c.size_needs.result (λ u. (ns : NodeList) → Grew c.size_needs.new.nodes ns
@@ -31,7 +31,7 @@ returns-in-Allocation-clause-adds c =
 pub returns-in-Event-clause-adds : goal.returns-in-Event-clause-adds
 returns-in-Event-clause-adds c =
     let o = c.args.s.now.op.now in
-    let ss = λ (ns : NodeList). operand_shadows c.args.s.now.p.now (registers_by ns c.args.s.now.registers.now) o in
+    let ss = λ (ns : NodeList). operand_symbolics c.args.s.now.p.now (registers_by ns c.args.s.now.registers.now) o in
     subst (λ (k : StepKind). IfOk c.event_needs.result (λ u. (ns : NodeList) → Grew c.event_needs.new.nodes ns
     → Adds ns (step_needs c.args.fixed (ss ns) o k) c.args.asked.now c.event_needs.new.asked)) (sym c.in-Event.is)
     (subst (λ (k : StepKind). IfOk c.event_needs.result (λ u. (ns : NodeList) → Grew c.event_needs.new.nodes ns

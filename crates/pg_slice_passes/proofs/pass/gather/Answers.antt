@@ -10,20 +10,20 @@ use Rattle.pg_slice_passes.proofs.pass.gather.Goals as goal
 
 pub loop-n-init : goal.loop-n-init
 loop-n-init c =
-    let g : Gathered = record { sources = c.in_ok-sources.sources; asked = c.new.result; footprints = c.new-2.result } in
+    let g : Gathered = record { symbolic_nodes = c.in_ok-symbolic_nodes.symbolic_nodes; asked = c.new.result; footprints = c.new-2.result } in
     let ns = c.start.new.nodes in (
-      c.in_ok-sources.ensures.is,
+      c.in_ok-symbolic_nodes.ensures.is,
       earlier_none c.args.run.now.t.now.steps c.new-2.result c.new-2.ensures.footprints c.new-2.ensures.owners,
       none_named (length ns) c.new.result.checks.items c.new.ensures.checks,
       λ regions gated input marks.
           passed_none (reference_of c.args.run.now.p.now regions gated input c.args.run.now.t.now.steps) (taken_by c.args.d.now) ns g
-          (c.in_ok-sources.ensures.knows (taken_by c.args.d.now).pinned) c.new.ensures.missing c.new.ensures.checks c.new-2.ensures.footprints c.new-2.ensures.owners,
+          (c.in_ok-symbolic_nodes.ensures.knows (taken_by c.args.d.now).pinned) c.new.ensures.missing c.new.ensures.checks c.new-2.ensures.footprints c.new-2.ensures.owners,
     )
 
 pub loop-n-preserved : goal.loop-n-preserved
 loop-n-preserved c =
     let v = c.loop-n.invariant in
-    let e = c.in_ok-pass_step.ensures in (e.sources, e.earlier v.1, e.named v.2, λ regions gated input marks. e.passed regions gated input marks (v.3 regions gated input marks))
+    let e = c.in_ok-pass_step.ensures in (e.symbolic_nodes, e.earlier v.1, e.named v.2, λ regions gated input marks. e.passed regions gated input marks (v.3 regions gated input marks))
 
 pub returns-clause-passed : goal.returns-clause-passed
 returns-clause-passed c = λ regions gated input marks.

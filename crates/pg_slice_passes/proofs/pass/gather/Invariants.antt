@@ -11,7 +11,7 @@ use Rattle.pg_slice_passes.proofs.pass.gather.Given as goal
 
 abbrev pub invariant-loop-n : goal.invariant-loop-n
 invariant-loop-n l =
-    AreKept (length l.nodes) l.g.sources
+    AreKept (length l.nodes) l.g.symbolic_nodes
     × AreEarlier l.run.t.now.steps l.n l.g.footprints
     × AreNamed (length l.nodes) l.g.asked.checks.items
     × ((regions : Regions) (gated : List InstrId) (input : List ℤ) → HasLandmarks (reference_of l.run.p.now regions gated input l.run.t.now.steps) l.run.r.now →

@@ -48,8 +48,8 @@ step-requires-clause-go c =
       block = c.requires.given.edges c.args.n;
     }
 
-pub step-requires-clause-sources : goal.step-requires-clause-sources
-step-requires-clause-sources c = are_kept c.args.nodes.now c.needs.new.nodes c.args.g.now.sources c.needs.ensures.grew c.requires.sources
+pub step-requires-clause-symbolic_nodes : goal.step-requires-clause-symbolic_nodes
+step-requires-clause-symbolic_nodes c = are_kept c.args.nodes.now c.needs.new.nodes c.args.g.now.symbolic_nodes c.needs.ensures.grew c.requires.symbolic_nodes
 
 pub returns-clause-grew : goal.returns-clause-grew
 returns-clause-grew c = grew_then c.args.nodes.now c.needs.new.nodes c.step.new.nodes c.needs.ensures.grew c.step.ensures.grew
@@ -79,15 +79,15 @@ returns-clause-passed c = λ regions gated input marks before.
     let new = c.step.new.nodes in
     let g1 = c.needs.ensures.grew in
     let g2 = c.step.ensures.grew in
-    let s = c.args.g.now.sources in
+    let s = c.args.g.now.symbolic_nodes in
     let m = has_moment gated p input xs n x v c.args.run.now.intervals.now c.requires.given.intervals c.step-step.ensures c.interval_at-interval.ensures.or_any in
     let k = known_at R d n in
     let y = step_from R d n k m.moment in
     let at = is_at R d r n x i old s m.moment marks m.stands m.did c.instr-x.ensures.at before.known in
     let timed : IsTimed y x v = record { did = m.did; low = m.low; high = m.high } in
-    let h : Gathered = record { sources = c.step.new.self; asked = c.needs.new.asked; footprints = c.add_footprints.new.footprints } in
+    let h : Gathered = record { symbolic_nodes = c.step.new.self; asked = c.needs.new.asked; footprints = c.add_footprints.new.footprints } in
     passed_more R d n m.moment m.stands old new c.args.g.now h (grew_then old mid new g1 g2) before
-    (c.in_ok-step.ensures.value R m.moment k refl at.landmark m.did c.instr-x.ensures.at (knows_kept p old mid d.pinned s k g1 c.requires.sources before.known))
+    (c.in_ok-step.ensures.value R m.moment k refl at.landmark m.did c.instr-x.ensures.at (knows_kept p old mid d.pinned s k g1 c.requires.symbolic_nodes before.known))
     (c.in_ok-needs.ensures.missing R y at) (λ other. c.in_ok-needs.ensures.checks R y new other g2 at)
     (named_more (length mid) (length new) c.needs.new.asked.checks.items (grew_length mid new g2) (c.in_ok-needs.ensures.named before.named))
     (c.in_ok-add_footprints.ensures.footprints R d p old i y at timed) (c.in_ok-add_footprints.ensures.owners R d p old i y at timed)

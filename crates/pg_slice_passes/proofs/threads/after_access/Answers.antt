@@ -2,7 +2,7 @@ use Rattle.std.proofs.Common.{◌≡◌, [], ◌<◌, length, slice_index_or, re
 use Rattle.pg_slice_rules.specs.Known.{on_thread, with_top}
 use Rattle.pg_slice_rules.specs.Known as along
 use Rattle.pg_slice_values.proofs.GrowingNodes.{grew_none}
-use Rattle.pg_slice_registers.specs.Sourced.{AreCalls, CallList, calls_by}
+use Rattle.pg_slice_registers.specs.SymbolicRegisterNodes.{AreCalls, CallList, calls_by}
 use Rattle.pg_slice_passes.proofs.ThreadLists.{at_any, calls_at, one_changes, set_threads}
 use Rattle.pg_slice_passes.proofs.threads.after_access.Goals as goal
 

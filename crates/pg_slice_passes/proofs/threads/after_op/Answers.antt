@@ -2,7 +2,7 @@ use Rattle.std.proofs.Common.{◌≡◌, [], ◌<◌, length, slice_index_or, ap
 use Rattle.std.proofs.lemmas.Result.{on_ok_weaker}
 use Rattle.pg_slice_rules.specs.Known.{on_thread, with_top}
 use Rattle.pg_slice_rules.specs.Known as along
-use Rattle.pg_slice_registers.specs.Sourced.{CallList, calls_by}
+use Rattle.pg_slice_registers.specs.SymbolicRegisterNodes.{CallList, calls_by}
 use Rattle.pg_slice_registers.proofs.ThreadsMade.{threads_stay}
 use Rattle.pg_slice_passes.proofs.ThreadLists.{at_any, one_changes, set_threads}
 use Rattle.pg_slice_passes.proofs.threads.after_op.Goals as goal
@@ -12,7 +12,7 @@ returns-then-t-len-clause-is c =
     let old = c.args.nodes.now in
     let new = c.after_op.new.nodes in
     let calls = c.args.threads.now.items in
-    on_ok_weaker c.after_op.result (λ h. set_threads (length new) calls c.args.t c.after_op.new.self (threads_stay old new calls c.after_op.ensures.grew c.requires.sources) h) c.after_op.ensures.is
+    on_ok_weaker c.after_op.result (λ h. set_threads (length new) calls c.args.t c.after_op.new.self (threads_stay old new calls c.after_op.ensures.grew c.requires.symbolic_nodes) h) c.after_op.ensures.is
 
 pub returns-then-t-len-clause-value : goal.returns-then-t-len-clause-value
 returns-then-t-len-clause-value c m region pinned opens ks at k =
@@ -26,5 +26,5 @@ returns-then-t-len-clause-value c m region pinned opens ks at k =
     let lt : t < length calls = omega (arith, c.if-t-len.true, c.len.ensures) in
     let found : c.index_mut-thread.result.now ≡ slice_index_or calls t [] = c.index_mut-thread.ensures.value ∙ at_any calls t _ [] lt in
     on_ok_weaker c.after_op.result (λ q.
-    one_changes old new pinned change t calls c.after_op.new.self opens ks c.after_op.ensures.grew c.requires.sources lt
+    one_changes old new pinned change t calls c.after_op.new.self opens ks c.after_op.ensures.grew c.requires.symbolic_nodes lt
     (q ∙ ap (λ (cs : CallList). change (calls_by old cs)) found) k) (c.after_op.ensures.value m region at)

@@ -1,6 +1,6 @@
 use Rattle.std.proofs.Common.{◌∷◌, [], ◌++◌, List, length, ap, sym, ◌∙◌, subst}
 use Rattle.pg_slice_rules.specs.Known.{fresh_registers, fresh_thread}
-use Rattle.pg_slice_registers.specs.Sourced.{CallList}
+use Rattle.pg_slice_registers.specs.SymbolicRegisterNodes.{CallList}
 use Rattle.pg_slice_registers.specs.Threads.{AreThreads}
 use Rattle.pg_slice_passes.specs.State.{KnowsThreads}
 use Rattle.pg_slice_passes.proofs.ThreadLists.{first_known}

@@ -1,5 +1,5 @@
 use Rattle.std.proofs.Common.{List, sym, subst}
-use Rattle.pg_slice_rules.specs.Known.{ThreadShadow, threads_after}
+use Rattle.pg_slice_rules.specs.Known.{SymbolicThread, threads_after}
 use Rattle.pg_slice_decisions.specs.declared.open.OpenExtents.{OpenExtents}
 use Rattle.pg_slice_passes.specs.State.{KnowsThreads}
 use Rattle.pg_slice_passes.proofs.ThreadLists.{created, none_created}
@@ -19,4 +19,4 @@ pub returns-in_default-clause-value : goal.returns-in_default-clause-value
 returns-in_default-clause-value c pinned ks k =
     let p = c.args.p.now in
     let e = c.args.e in
-    subst (λ (xs : List ThreadShadow). KnowsThreads c.args.nodes.now pinned c.args.threads.now.items c.args.extents.now.items xs) (sym (none_created p e e.kind ks c.in_default.not-Create)) k
+    subst (λ (xs : List SymbolicThread). KnowsThreads c.args.nodes.now pinned c.args.threads.now.items c.args.extents.now.items xs) (sym (none_created p e e.kind ks c.in_default.not-Create)) k

@@ -1,5 +1,5 @@
 use Rattle.std.proofs.Common.{◌≡◌, ◌++◌, take, drop}
-use Rattle.pg_slice_registers.specs.Sourced.{marked}
+use Rattle.pg_slice_registers.specs.SymbolicRegisterNodes.{marked}
 use Rattle.pg_slice_registers.proofs.SetRegisters.{forgotten}
 use Rattle.pg_slice_registers.proofs.registers.forget.Given as goal
 

@@ -1,5 +1,5 @@
 use Rattle.std.proofs.Common.{◌≡◌, drop}
-use Rattle.pg_slice_values.specs.Sources.{blamed}
+use Rattle.pg_slice_values.specs.SymbolicNodes.{blamed}
 use Rattle.pg_slice_values.proofs.form.blamed.Given as goal
 
 abbrev pub invariant-loop-operand : goal.invariant-loop-operand

@@ -4,11 +4,11 @@ use Rattle.pg_ir.specs.declared.instr.Op.{Op}
 use Rattle.pg_ir.specs.declared.instr.Op.TheVariants as op
 use Rattle.pg_ir.specs.declared.value.Index.{Index}
 use Rattle.pg_run_thread.specs.Operands.{operands_of}
-use Rattle.pg_slice_rules.specs.Shadows.{applied, result_of, valued}
+use Rattle.pg_slice_rules.specs.SymbolicValues.{applied, result_of, valued}
 use Rattle.pg_precondition.specs.declared.node.Node.{Node}
 use Rattle.pg_precondition.specs.Nodes.{IsNode}
 use Rattle.pg_precondition.specs.Values.{node_number, numbers_of}
-use Rattle.pg_slice_values.specs.Sources.{number_by, shadow_by}
+use Rattle.pg_slice_values.specs.SymbolicNodes.{number_by, symbolic_by}
 use Rattle.pg_slice_values.proofs.OneNodeOperations.{formed, node_fits}
 use Rattle.pg_slice_values.proofs.Indices.{gep_count, gep_is}
 use Rattle.pg_slice_values.proofs.Operands.{all_blamed}
@@ -21,7 +21,7 @@ pub known-requires : goal.known-requires
 known-requires c =
     let n = length c.args.nodes.now in
     subst (λ (x : Node). IsNode n x) (sym c.node_by.ensures)
-    (node_fits n c.args.op.now c.in-Some-form_of.form c.args.operands.now (sym c.in-Some-form_of.ensures) c.requires.cast (sym c.in_default.ensures) c.requires.count c.requires.sources)
+    (node_fits n c.args.op.now c.in-Some-form_of.form c.args.operands.now (sym c.in-Some-form_of.ensures) c.requires.cast (sym c.in_default.ensures) c.requires.count c.requires.symbolic_nodes)
 
 pub returns-in-Some-form_of-clause-value : goal.returns-in-Some-form_of-clause-value
 returns-in-Some-form_of-clause-value c =
@@ -39,4 +39,4 @@ returns-clause-value c =
     let e : c.args.op.now ≡ op.Gep base is = c.in-Gep.is ∙ ap (λ (l : List Index). op.Gep base l) (sym c.as_slice.ensures.items) in
     let count : length ss ≡ length is + 1 = c.requires.count ∙ ap (λ (o : Op). length (operands_of o)) e ∙ gep_count base is in
     gep_is old base is ss (number_by c.moved_along.new.nodes c.in_ok-word-in-Gep.word) (sym c.in_default.ensures) count (λ input. c.in_ok-word-in-Gep.ensures.value input)
-    ∙ ap (λ (o : Op). result_of o (map (shadow_by old) ss)) (sym e)
+    ∙ ap (λ (o : Op). result_of o (map (symbolic_by old) ss)) (sym e)

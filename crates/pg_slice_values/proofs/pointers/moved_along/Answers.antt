@@ -3,7 +3,7 @@ use Rattle.pg_num.specs.declared.width.Width.TheVariants.{W1}
 use Rattle.pg_ir.specs.declared.value.Index.{Index}
 use Rattle.pg_ir.specs.declared.value.Scale.TheVariants.{Times}
 use Rattle.pg_ir.specs.declared.value.Value.TheVariants.{Register}
-use Rattle.pg_slice_values.specs.Sources.{number_by}
+use Rattle.pg_slice_values.specs.SymbolicNodes.{number_by}
 use Rattle.pg_slice_values.specs.Forms.{node_at, numbers_from}
 use Rattle.pg_slice_values.proofs.GrowingNodes.{grew_then, number_kept}
 use Rattle.pg_slice_values.proofs.Operands.{known_below, number_from, numbers_length}
@@ -24,7 +24,7 @@ loop-i-preserved c =
           one_index c.args.indices.now (numbers_from old ss input) i none (number_by c.loop-i.nodes c.loop-i.word input) _ (omega arith) (numbers_length old ss input ∙ c.requires.count)
           (with_number (slice_index_or c.args.indices.now i none) _ _ _ _ (c.in_ok-word.ensures.value input)
           (ap (λ k. number_by c.loop-i.nodes k input) c.node_at.ensures
-          ∙ number_kept old c.loop-i.nodes (node_at ss (i + 1)) input c.loop-i.invariant.grew (known_below (length old) ss (i + 1) c.requires.known c.requires.sources within)
+          ∙ number_kept old c.loop-i.nodes (node_at ss (i + 1)) input c.loop-i.invariant.grew (known_below (length old) ss (i + 1) c.requires.known c.requires.symbolic_nodes within)
           ∙ sym (number_from old ss input (i + 1) within)))
           ∙ c.loop-i.invariant.value input;
     }

@@ -1,5 +1,5 @@
 use Rattle.std.proofs.Common.{◌≡◌, ◌+◌, ◌<◌, ℤ, List, length, drop}
-use Rattle.pg_slice_values.specs.Sources.{Grew, number_by}
+use Rattle.pg_slice_values.specs.SymbolicNodes.{Grew, number_by}
 use Rattle.pg_slice_values.specs.Forms.{moved_each, node_at, numbers_from}
 use Rattle.pg_slice_values.proofs.pointers.moved_along.Given as goal
 

@@ -1,6 +1,6 @@
 use Rattle.std.proofs.Common.{◌∙◌, ap}
 use Rattle.std.proofs.lemmas.Result.{IfOk-weaker}
-use Rattle.pg_slice_values.specs.Sources.{number_by}
+use Rattle.pg_slice_values.specs.SymbolicNodes.{number_by}
 use Rattle.pg_slice_values.specs.Forms.{moved_if}
 use Rattle.pg_slice_values.proofs.GrowingNodes.{number_kept}
 use Rattle.pg_slice_values.proofs.PointerMoves.{moved_is}

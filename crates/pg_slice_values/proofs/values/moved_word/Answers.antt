@@ -4,8 +4,8 @@ use Rattle.pg_num.specs.Numbers.{signed}
 use Rattle.pg_num.specs.Pointers.{moved_by}
 use Rattle.pg_num.specs.declared.width.Width.TheVariants.{W64}
 use Rattle.pg_precondition.specs.Values.{with_both, with_one}
-use Rattle.pg_slice_rules.specs.Shadows.{OnInput, Known}
-use Rattle.pg_slice_values.specs.Sources.{number_by}
+use Rattle.pg_slice_rules.specs.SymbolicValues.{OnInput, Known}
+use Rattle.pg_slice_values.specs.SymbolicNodes.{number_by}
 use Rattle.pg_slice_values.proofs.GrowingNodes.{grew_then, number_kept}
 use Rattle.pg_slice_values.proofs.PointerMoves.{moved_signed}
 use Rattle.pg_slice_values.proofs.values.moved_word.Goals as goal

@@ -1,0 +1,26 @@
+use Rattle.std.proofs.Common.{◌≡◌, ◌++◌, ◌∷◌, [], ℕ, ap, ◌∙◌}
+use Rattle.std.proofs.lemmas.Result.{on_ok_weaker}
+use Rattle.pg_num.specs.Places.{ByteRange}
+use Rattle.pg_slice_memory.specs.SymbolicNodes.{changed}
+use Rattle.pg_slice_memory.specs.Changes.{symbolic_nodes_of}
+use Rattle.pg_slice_memory.proofs.ByteChanges.{symbolic_nodes_more}
+use Rattle.pg_slice_memory.proofs.KnownAfterChanges.{names_kept, store_shown}
+use Rattle.pg_slice_memory.proofs.memory.SymbolicMemory.store.Goals as goal
+
+abbrev stored_range : goal.After-change → ByteRange
+stored_range c = record { start = c.args.start; bytes = c.args.count }
+
+symbolic_nodes_are : (c : goal.After-change) → c.change.new.self ≡ c.args.self.now ++ record { start = c.args.start; bytes = c.from.result; to = c.args.of } ∷ [] →
+    symbolic_nodes_of c.change.new.self ≡ changed (stored_range c) c.args.of (symbolic_nodes_of c.args.self.now)
+symbolic_nodes_are c e =
+    symbolic_nodes_more c.args.self.now c.change.new.self (record { start = c.args.start; bytes = c.from.result; to = c.args.of }) e
+    ∙ ap (λ (n : ℕ). changed (record { start = c.args.start; bytes = n }) c.args.of (symbolic_nodes_of c.args.self.now)) c.from.ensures
+
+pub returns-clause-symbolic_nodes : goal.returns-clause-symbolic_nodes
+returns-clause-symbolic_nodes c = on_ok_weaker c.change.result (symbolic_nodes_are c) c.change.ensures.ok
+
+pub returns-clause-symbolic : goal.returns-clause-symbolic
+returns-clause-symbolic c = on_ok_weaker c.change.result (λ e p ns. store_shown (stored_range c) c.args.of c.args.self.now c.change.new.self (symbolic_nodes_are c e) p ns) c.change.ensures.ok
+
+pub returns-clause-names : goal.returns-clause-names
+returns-clause-names c = on_ok_weaker c.change.result (λ e n s i. names_kept (stored_range c) c.args.of c.args.self.now c.change.new.self (symbolic_nodes_are c e) n s i) c.change.ensures.ok
