@@ -59,16 +59,19 @@ class Size:
     proofs: int
 
     def seconds(self):
-        """About how long one processor proves it: measured on crates of all sizes."""
-        return 10 + 0.08 * self.code + 0.02 * self.proofs
+        """About how long one processor proves it: ten seconds for a crate of one function, little for a lemma."""
+        return 10 + 0.12 * self.code + 0.003 * self.proofs
 
 
 class Kept:
     """What stands of earlier runs, and what it was made from."""
 
-    def __init__(self, tree):
-        self.tree, self.keys, self.stamps = tree, {}, stamps_of_rt(tree)
+    def __init__(self, tree, crates):
+        self.tree, self.keys, self.formats, self.stamps = tree, {}, {}, stamps_of_rt(tree)
         self.identity = identity_of(tree.kit)
+        # of the texts that stand now: what is built of others isn't kept
+        for crate in crates:
+            self.key(crate)
 
     def key(self, crate):
         """Returns a checksum of all that a crate's library is made from: the toolchain, its texts, and those below."""
@@ -85,8 +88,6 @@ class Kept:
 
     def is_built(self, crate):
         """Returns whether what stands of a crate was made from the texts that stand, over the libraries that stand."""
-        if not all(map(self.is_built, self.tree.named(crate))):
-            return False
         if crate == PROGRAM:
             return os.path.isfile(program_of(self.tree)) and text_of(self.mark(crate)) == self.key(crate)
         rt_stamp = text_of(f"{self.tree.at(crate)}/out/rlib/stamp")
@@ -94,11 +95,17 @@ class Kept:
         return bool(is_same and self.fits(crate))
 
     def fits(self, crate):
-        """Returns whether a library was built over the libraries that stand: a file of it has their checksums."""
-        format_of = lambda it: text_of(f"{self.tree.library(it)}/format").splitlines()
-        needs = [line.split() for line in format_of(crate) if line.startswith("needs ")]
-        below = [it[1:] for it in needs if it[1] in self.tree.crates]
-        return bool(format_of(crate)) and all(f"sum {made}" in format_of(name) for name, made in below)
+        """Returns whether a library was built over the libraries that stand: one of statements names their sums."""
+        if not self.lines(crate):
+            return False
+        needs = [line.split() for line in self.lines(crate) if line.startswith("needs ")]
+        return all(f"sum {made}" in self.lines(name) for _, name, made in needs if name in self.tree.crates)
+
+    def lines(self, crate):
+        """Returns the lines of the file that tells what a library is, as it stood when they were first read."""
+        if crate not in self.formats:
+            self.formats[crate] = text_of(f"{self.tree.library(crate)}/format").splitlines()
+        return self.formats[crate]
 
     def note(self, crate):
         """Notes that a crate is built of the texts that stood when the run began. Texts that changed since aren't."""
@@ -158,10 +165,13 @@ class Build:
     """The crates in their order, and those that are at work."""
 
     def __init__(self, tree):
-        self.tree, self.kept = tree, Kept(tree)
-        self.crates = [*tree.below(PROGRAM), PROGRAM]
+        self.tree, self.crates = tree, [*tree.below(PROGRAM), PROGRAM]
+        self.kept = Kept(tree, self.crates)
         self.sizes = {it: self.size_of(it) for it in self.crates}
-        self.left = {it for it in self.crates if not self.kept.is_built(it)}
+        self.left = set()
+        for crate in self.crates:
+            if self.left.intersection(tree.named(crate)) or not self.kept.is_built(crate):
+                self.left.add(crate)
         self.ahead = self.longest_ways()
         self.processors, self.memory = processors(), free_memory()
         # those that are at work, and those that were killed, most likely for memory, and are to run alone
@@ -185,7 +195,7 @@ class Build:
         return self.sizes[crate].seconds() if crate in self.left else 0
 
     def memory_of(self, crate, jobs):
-        """Returns about the most bytes that a check of a crate takes: measured on crates of all sizes."""
+        """Returns about the most bytes that a check of a crate takes over libraries of statements."""
         below = sum(self.sizes[it].code for it in self.tree.below(crate))
         size = self.sizes[crate]
         one = 900_000_000 + 600_000 * size.code + 200_000 * size.proofs + 40_000 * below
@@ -250,6 +260,8 @@ class Build:
             say(f"the check of {run.crate} was killed, most likely for memory: once more, with nothing beside it")
             self.alone.add(run.crate)
             return
+        if run.process.returncode < 0:
+            raise Stopped(f"the check of {run.crate} was ended by signal {-run.process.returncode}")
         if run.process.returncode:
             raise Stopped(f"{run.crate} isn't proved, by the prover's last lines:\n{last_lines(run.output)}")
         out = f"{self.tree.at(run.crate)}/out"
@@ -290,13 +302,14 @@ class Build:
     def stop(self):
         """Ends what is at work, and leaves nothing of it behind."""
         for run in self.running:
-            os.killpg(run.process.pid, signal.SIGKILL)
-            run.process.wait()
+            if run.process.poll() is None:
+                os.killpg(run.process.pid, signal.SIGKILL)
+                run.process.wait()
             shutil.rmtree(f"{self.tree.at(run.crate)}/out/made", ignore_errors=True)
 
 
 @contextlib.contextmanager
-def alone(tree):
+def by_itself(tree):
     """Waits until no other run works in the crates' folders, and keeps others out meanwhile, by the locks that rt has."""
     held = [os.open(tree.at(it), os.O_RDONLY) for it in sorted([*tree.below(PROGRAM), PROGRAM])]
     try:
@@ -318,17 +331,22 @@ def last_lines(path):
 
 def run(tree):
     """Proves what isn't proved yet, and links the program."""
-    with alone(tree):
+    with by_itself(tree):
         began, build = time.time(), Build(tree)
-        count, left = len(build.crates), len(build.left)
-        cost = f"about {build.minutes()} minutes on {build.processors} idle processors"
-        say(f"proving and building the program: {left} of {count} crates are to be proved, {cost}")
-        try:
-            build.prove()
-        finally:
-            build.stop()
-            if build.left:
-                say(f"{count - len(build.left)} of {count} crates are proved, and that stays")
+        if build.left:
+            prove_all(build)
         # a text that changes from here on is newer than the program
         os.utime(program_of(tree), (began, began))
     return 0
+
+
+def prove_all(build):
+    count, left = len(build.crates), len(build.left)
+    cost = f"about {build.minutes()} minutes on {build.processors} idle processors"
+    say(f"proving and building the program: {left} of {count} crates are to be proved, {cost}")
+    try:
+        build.prove()
+    finally:
+        build.stop()
+        if build.left:
+            say(f"{count - len(build.left)} of {count} crates are proved, and that stays")
