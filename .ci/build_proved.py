@@ -263,7 +263,7 @@ class Build:
         if run.process.returncode < 0:
             raise Stopped(f"the check of {run.crate} was ended by signal {-run.process.returncode}")
         if run.process.returncode:
-            raise Stopped(f"{run.crate} isn't proved, by the prover's last lines:\n{last_lines(run.output)}")
+            raise Stopped(f"{last_lines(run.output)}\n{run.crate} isn't proved; {run.output} has all that the prover said")
         out = f"{self.tree.at(run.crate)}/out"
         if run.crate == PROGRAM:
             self.link(out)
@@ -310,7 +310,7 @@ class Build:
 
 @contextlib.contextmanager
 def by_itself(tree):
-    """Waits until no other run works in the crates' folders, and keeps others out meanwhile, by the locks that rt has."""
+    """Waits until no other run works in the crates' folders, and keeps others out, by the locks that rt has."""
     held = [os.open(tree.at(it), os.O_RDONLY) for it in sorted([*tree.below(PROGRAM), PROGRAM])]
     try:
         for it in held:

@@ -136,8 +136,9 @@ def link(kit, room, count, target):
 def compile_module(tree, room, words):
     """Compiles the module that stands in the room, in parts, and links the program."""
     kit, target = tree.kit, next((it[9:] for it in words if it.startswith("--target=")), "")
-    as_text = [*words, "-S", "-emit-llvm", "-Xclang", "-disable-llvm-passes", f"{room}/module.bc", "-o", f"{room}/module.ll"]
-    if run_and_tell([([f"{kit}/toolchain/bin/clang", *as_text], {})], "reading the module, unproved", room) != [0]:
+    as_text = [f"{kit}/toolchain/bin/clang", *words, "-S", "-emit-llvm", "-Xclang", "-disable-llvm-passes"]
+    as_text += [f"{room}/module.bc", "-o", f"{room}/module.ll"]
+    if run_and_tell([(as_text, {})], "reading the module, unproved", room) != [0]:
         raise NoWay("the module can't be read")
     parts = Module(text_of(f"{room}/module.ll")).parts(min(8, processors()))
     if not compile_parts(kit, room, words, parts) or not link(kit, room, len(parts), target):
