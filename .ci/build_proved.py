@@ -59,8 +59,8 @@ class Size:
     proofs: int
 
     def seconds(self):
-        """About how long one processor proves it: ten seconds for a crate of one function, little for a lemma."""
-        return 10 + 0.12 * self.code + 0.003 * self.proofs
+        """About how long one processor proves it: 12,300 seconds for all crates, 10 for one of one function."""
+        return 10 + 0.17 * self.code + 0.003 * self.proofs
 
 
 class Kept:
@@ -263,7 +263,8 @@ class Build:
         if run.process.returncode < 0:
             raise Stopped(f"the check of {run.crate} was ended by signal {-run.process.returncode}")
         if run.process.returncode:
-            raise Stopped(f"{last_lines(run.output)}\n{run.crate} isn't proved; {run.output} has all that the prover said")
+            said = f"{last_lines(run.output)}\n{run.crate} isn't proved"
+            raise Stopped(f"{said}; {run.output} has all that the prover said")
         out = f"{self.tree.at(run.crate)}/out"
         if run.crate == PROGRAM:
             self.link(out)
