@@ -1,9 +1,9 @@
-"""Compiles the program of these sources without a proof, and keeps it in crates/peregrine/out/unproved.
+"""Compiles the program of these sources without a proof, into crates/peregrine/out/unproved.
 
 The toolchain has a trial run, `rt try`, that compiles anew each time, slowly and with checks of each access. Here it
 runs over a toolchain of links in which something else stands for the compiler: it keeps the module that the trial run
-made of the sources, and the module is compiled without those checks, in parts side by side. What stays in it are the
-checks that stop a run at an overflow or an index out of bounds.
+made of the sources, and the module is compiled without those checks. What stays in it are the checks that stop a run at
+an overflow or an index out of bounds.
 """
 
 import hashlib
@@ -15,12 +15,14 @@ import sys
 import tempfile
 import time
 
-from build_proved import PROGRAM, TELL_EACH, identity_of, say, text_of
+from kept import PROGRAM, identity_of, mark_of_program, write
 from module_parts import Module
-from toolchain import processors, sum_of_files
+from toolchain import processors, say, sum_of_files, text_of
 
 # the exit status that asks for the toolchain's own trial run
 NO_WAY = 3
+# how often the script says what it is at, in seconds
+TELL_EACH = 30
 # the word by which the trial run has the compiler check each access
 CHECKED = "-fsanitize=address"
 
@@ -76,8 +78,7 @@ def toolchain_without_compiler(kit, room):
     os.remove(f"{to}/toolchain")
     links_to(f"{kit}/toolchain", f"{to}/toolchain", ["bin"])
     links_to(f"{kit}/toolchain/bin", f"{to}/toolchain/bin", ["clang"])
-    with open(f"{to}/toolchain/bin/clang", "w", encoding="utf-8") as it:
-        it.write(COMPILER.format(checked=CHECKED, room=room, compiler=f"{kit}/toolchain/bin/clang"))
+    write(f"{to}/toolchain/bin/clang", COMPILER.format(checked=CHECKED, room=room, compiler=f"{kit}/toolchain/bin/clang"))
     os.chmod(f"{to}/toolchain/bin/clang", 0o755)
     return to
 
@@ -146,26 +147,24 @@ def compile_module(tree, room, words):
 
 
 def run(tree):
-    """Prints where the unproved program of these sources stands, and compiles it first where it doesn't yet."""
-    key, kept = key_of(tree), f"{tree.at(PROGRAM)}/out/unproved"
-    if text_of(f"{kept}/key") != key:
+    """Compiles the program where it doesn't yet stand for these sources."""
+    began, key, kept = time.time(), key_of(tree), f"{tree.at(PROGRAM)}/out/unproved"
+    program, mark = f"{kept}/{PROGRAM}", f"{kept}/key"
+    if not os.path.isfile(program) or text_of(mark) != mark_of_program(key, program):
         say("compiling the sources without a proof; the first time this takes about three minutes")
-        os.makedirs(os.path.dirname(kept), exist_ok=True)
-        with tempfile.TemporaryDirectory(prefix="unproved-", dir=os.path.dirname(kept)) as room:
+        os.makedirs(kept, exist_ok=True)
+        with tempfile.TemporaryDirectory(prefix="room-", dir=kept) as room:
             try:
                 compile_module(tree, room, make_module(tree, room))
             except Refused:
                 print(text_of(f"{room}/said")[-4000:], end="", file=sys.stderr)
                 say("the sources aren't compiled")
                 return 1
-            except (NoWay, OSError) as why:
+            except NoWay as why:
                 say(f"this toolchain's trial run answers in place of a program: {why}")
                 return NO_WAY
-            os.makedirs(f"{room}/made")
-            os.rename(f"{room}/{PROGRAM}", f"{room}/made/{PROGRAM}")
-            with open(f"{room}/made/key", "w", encoding="utf-8") as it:
-                it.write(key)
-            shutil.rmtree(kept, ignore_errors=True)
-            os.rename(f"{room}/made", kept)
-    print(f"{kept}/{PROGRAM}")
+            os.replace(f"{room}/{PROGRAM}", program)
+        write(mark, mark_of_program(key, program))
+    # a text that changes from here on is newer than the program
+    os.utime(program, (began, began))
     return 0

@@ -64,10 +64,10 @@ class Scratch(Tree):
 
     def is_of_ci(self, crate):
         """Returns whether a crate's library is the one that rt ci has just built of these files, after it had proved
-        them: it marks none with a stamp, as other commands do."""
+        them: it marks none, and other commands mark theirs with a stamp or a key."""
         it = self.library(crate)
-        has_stamp = os.path.exists(f"{os.path.dirname(it)}/stamp")
-        return self.after_ci and os.path.isfile(f"{it}/format") and not has_stamp
+        has_mark = any(os.path.exists(f"{os.path.dirname(it)}/{mark}") for mark in ("stamp", "key"))
+        return self.after_ci and os.path.isfile(f"{it}/format") and not has_mark
 
     def has_libraries_of_ci(self, crate):
         """Returns whether all libraries below a crate are those that rt ci has just built of these files."""

@@ -4,12 +4,27 @@ import hashlib
 import os
 import re
 import shutil
+import sys
 
 PARTS = ("src", "specs", "proofs")
 
 
 class Stopped(Exception):
     """Why there is no answer."""
+
+
+def say(text):
+    """Says this to the person who waits."""
+    print(f"peregrine: {text}", file=sys.stderr, flush=True)
+
+
+def text_of(path):
+    """Returns the text of a file, or nothing where there is none."""
+    try:
+        with open(path, encoding="utf-8") as it:
+            return it.read()
+    except FileNotFoundError:
+        return ""
 
 
 def toolchain():
