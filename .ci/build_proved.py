@@ -230,7 +230,7 @@ def run(tree):
         count, left = len(build.crates), len(build.left)
         if left:
             say(f"proving and building the program: {left} of {count} crates are to be proved")
-            say(f"this takes about {build.minutes()} minutes on {build.processors} idle processors")
+            say(f"this takes about {build.minutes()} min on {build.processors} idle processors")
         try:
             build.prove()
         finally:

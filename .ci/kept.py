@@ -10,6 +10,7 @@ import hashlib
 import importlib.machinery
 import importlib.util
 import os
+import re
 
 from toolchain import sum_of_files, text_of
 
@@ -83,15 +84,17 @@ class Kept:
         return (is_of_rt or text_of(f"{rlib}/key") == self.key(crate)) and self.fits(crate)
 
     def fits(self, crate):
-        """Returns whether a library was built over the libraries that stand: one of statements names their sums."""
-        needs = [line.split() for line in self.format(crate) if line.startswith("needs ")]
-        fitting = [f"sum {made}" in self.format(name) for _, name, made in needs if name in self.tree.crates]
-        return bool(self.format(crate)) and all(fitting)
+        """Returns whether a library was built over the libraries that stand: one of statements names the checksum of each
+        one's file `format`."""
+        text, _ = self.format(crate)
+        over = [it for it in re.findall(r"^over (\w+) (\w+)$", text, re.M) if it[0] in self.tree.crates]
+        return bool(text) and all(self.format(name)[1] == made for name, made in over)
 
     def format(self, crate):
-        """Returns the lines of the file that tells what a library is, as it stood when they were first read."""
+        """Returns the text of the file that tells what a library is, as it stood when it was first read, and its sum."""
         if crate not in self.formats:
-            self.formats[crate] = text_of(f"{self.tree.library(crate)}/format").splitlines()
+            text = text_of(f"{self.tree.library(crate)}/format")
+            self.formats[crate] = text, hashlib.sha256(text.encode()).hexdigest()
         return self.formats[crate]
 
     def is_unchanged(self, crate):
