@@ -17,7 +17,7 @@ import time
 
 from kept import PROGRAM, identity_of, mark_of_program, write
 from module_parts import Module
-from toolchain import processors, say, sum_of_files, text_of
+from toolchain import Stopped, processors, say, sum_of_files, text_of
 
 # the exit status that asks for the toolchain's own trial run
 NO_WAY = 3
@@ -42,10 +42,6 @@ exec '{compiler}' "$@"
 
 class NoWay(Exception):
     """This toolchain's trial run works otherwise."""
-
-
-class Refused(Exception):
-    """The sources aren't compiled, as the toolchain says."""
 
 
 def key_of(tree):
@@ -83,20 +79,21 @@ def toolchain_without_compiler(kit, room):
     return to
 
 
-def run_and_tell(commands, what, room):
-    """Runs commands side by side, says each half minute what it is at, and returns their exit statuses. An end of
-    this one ends them."""
+def run_and_tell(commands, what, room, **more):
+    """Runs commands side by side, says each half minute what it is at, and returns the most of their exit statuses. What
+    they say stands in the room. An end of this one ends them."""
     told, running = time.monotonic(), []
     with open(f"{room}/said", "w", encoding="utf-8") as said:
-        how = {"stdin": subprocess.DEVNULL, "stdout": said, "stderr": said, "start_new_session": True}
+        how = {"stdin": subprocess.DEVNULL, "stdout": said, "stderr": said, "start_new_session": True, **more}
         try:
-            running = [subprocess.Popen(it, **how, **more) for it, more in commands]
+            for words in commands:
+                running.append(subprocess.Popen(words, **how))
             while any(it.poll() is None for it in running):
                 time.sleep(0.1)
                 if time.monotonic() - told >= TELL_EACH:
                     say(what)
                     told = time.monotonic()
-            return [it.returncode for it in running]
+            return max(abs(it.returncode) for it in running)
         finally:
             for it in running:
                 if it.poll() is None:
@@ -104,46 +101,49 @@ def run_and_tell(commands, what, room):
                     it.wait()
 
 
+def end_of_said(room):
+    """Returns the last of what the commands said."""
+    return text_of(f"{room}/said")[-4000:].rstrip()
+
+
 def make_module(tree, room):
     """Has a trial run make the program's module, and returns the words by which it is compiled."""
     rt = f"{toolchain_without_compiler(tree.kit, room)}/bin/rt"
     how = {"cwd": tree.at(PROGRAM), "env": {**os.environ, "TMPDIR": room}}
-    (status,) = run_and_tell([([sys.executable, rt, "try"], how)], "reading the sources, unproved", room)
+    status = run_and_tell([[sys.executable, rt, "try"]], "reading the sources, unproved", room, **how)
     if not os.path.isfile(f"{room}/words"):
         if status == 1:
-            raise Refused
-        raise NoWay("its trial run compiles no module of its own")
+            raise Stopped(f"{end_of_said(room)}\nthe sources aren't compiled")
+        raise NoWay(f"{end_of_said(room)}\nits trial run compiles no module of its own")
     leave = {"-c", "-o", "module.o", "module.bc", "-Werror", CHECKED}
     return [it for it in text_of(f"{room}/words").splitlines() if it not in leave and not it.startswith("-O")]
 
 
-def compile_parts(kit, room, words, parts):
-    """Compiles the parts of a module side by side, and returns whether that went well."""
-    commands = []
-    for number, text in enumerate(parts):
-        with open(f"{room}/part{number}.ll", "w", encoding="utf-8") as it:
-            it.write(text)
-        files = [f"{room}/part{number}.ll", "-o", f"{room}/part{number}.o"]
-        commands.append(([f"{kit}/toolchain/bin/clang", *words, "-O1", "-c", *files], {}))
-    return not any(run_and_tell(commands, "compiling the program, unproved", room))
-
-
-def link(kit, room, count, target):
-    words = [f"{kit}/bin/rattle-link", "--target", target, "--toolchain", f"{kit}/toolchain"]
-    words += ["-o", f"{room}/{PROGRAM}", *[f"{room}/part{it}.o" for it in range(count)]]
-    return run_and_tell([([*words, f"{kit}/c/libos_c.a", f"{kit}/c/liblibc_c.a"], {})], "linking", room) == [0]
-
-
-def compile_module(tree, room, words):
-    """Compiles the module that stands in the room, in parts, and links the program."""
-    kit, target = tree.kit, next((it[9:] for it in words if it.startswith("--target=")), "")
+def read_module(kit, room, words):
+    """Returns the module that stands in the room."""
     as_text = [f"{kit}/toolchain/bin/clang", *words, "-S", "-emit-llvm", "-Xclang", "-disable-llvm-passes"]
-    as_text += [f"{room}/module.bc", "-o", f"{room}/module.ll"]
-    if run_and_tell([(as_text, {})], "reading the module, unproved", room) != [0]:
-        raise NoWay("the module can't be read")
-    parts = Module(text_of(f"{room}/module.ll")).parts(min(8, processors()))
-    if not compile_parts(kit, room, words, parts) or not link(kit, room, len(parts), target):
-        raise NoWay(f"the module isn't compiled:\n{text_of(f'{room}/said')[-2000:]}")
+    if run_and_tell([[*as_text, f"{room}/module.bc", "-o", f"{room}/module.ll"]], "reading the module, unproved", room):
+        raise NoWay(f"{end_of_said(room)}\nthe module can't be read")
+    try:
+        return Module(text_of(f"{room}/module.ll"))
+    except (KeyError, TypeError) as why:
+        raise NoWay("the module is written in another way") from why
+
+
+def compile_program(tree, room):
+    """Compiles the program into the room: the parts of its module side by side, which are then linked."""
+    kit, words = tree.kit, make_module(tree, room)
+    parts = read_module(kit, room, words).parts(min(8, processors()))
+    for number, text in enumerate(parts):
+        write(f"{room}/part{number}.ll", text)
+    compiler, files = [f"{kit}/toolchain/bin/clang", *words, "-O1", "-c"], [f"{room}/part{it}" for it in range(len(parts))]
+    compiling = [[*compiler, f"{it}.ll", "-o", f"{it}.o"] for it in files]
+    linking = [f"{kit}/bin/rattle-link", "--target", "x86_64-unknown-linux-gnu", "--toolchain", f"{kit}/toolchain"]
+    linking += ["-o", f"{room}/{PROGRAM}", *[f"{it}.o" for it in files]]
+    linking += [f"{kit}/c/libos_c.a", f"{kit}/c/liblibc_c.a"]
+    for commands in (compiling, [linking]):
+        if run_and_tell(commands, "compiling the program, unproved", room):
+            raise NoWay(f"{end_of_said(room)}\nthe module isn't compiled")
 
 
 def run(tree):
@@ -151,17 +151,13 @@ def run(tree):
     began, key, kept = time.time(), key_of(tree), f"{tree.at(PROGRAM)}/out/unproved"
     program, mark = f"{kept}/{PROGRAM}", f"{kept}/key"
     if not os.path.isfile(program) or text_of(mark) != mark_of_program(key, program):
-        say("compiling the sources without a proof; the first time this takes about three minutes")
+        say("compiling the sources without a proof; this takes one to three minutes, once")
         os.makedirs(kept, exist_ok=True)
         with tempfile.TemporaryDirectory(prefix="room-", dir=kept) as room:
             try:
-                compile_module(tree, room, make_module(tree, room))
-            except Refused:
-                print(text_of(f"{room}/said")[-4000:], end="", file=sys.stderr)
-                say("the sources aren't compiled")
-                return 1
+                compile_program(tree, room)
             except NoWay as why:
-                say(f"this toolchain's trial run answers in place of a program: {why}")
+                say(f"{why}, so that run itself is asked")
                 return NO_WAY
             os.replace(f"{room}/{PROGRAM}", program)
         write(mark, mark_of_program(key, program))

@@ -8,8 +8,6 @@ import re
 
 FUNCTION = re.compile(r"^define .*?^}\n", re.M | re.S)
 NAME = re.compile(r'@("[^"]*"|[\w.$-]+)')
-# what fills each place with a pattern before its first value, so that a run with checks can tell
-FILLING = re.compile(r"^  call void @llvm\.memset\.p0\.i64\(ptr %\w+, i8 -86, .*\n", re.M)
 # functions of fewer bytes than this are short
 SHORT = 2_000
 
@@ -19,31 +17,33 @@ class Module:
 
     def __init__(self, text):
         self.rest = FUNCTION.sub("", text)
-        self.bodies = {NAME.search(it)[1]: FILLING.sub("", it) for it in FUNCTION.findall(text)}
-        self.calls, ways = {}, ["main"]
-        while ways:
-            name = ways.pop()
+        self.bodies = {NAME.search(it)[1]: it for it in FUNCTION.findall(text)}
+        # of each function that main reaches, those that it names
+        self.calls, left = {}, ["main"]
+        while left:
+            name = left.pop()
             if name not in self.calls:
-                found = dict.fromkeys(NAME.findall(self.bodies[name]))
-                self.calls[name] = [it for it in found if it in self.bodies and it != name]
-                ways += self.calls[name]
+                named = dict.fromkeys(NAME.findall(self.bodies[name]))
+                self.calls[name] = [it for it in named if it in self.bodies and it != name]
+                left += self.calls[name]
 
     def is_short(self, name):
+        """Returns whether a function stands in each part that calls it."""
         return name != "main" and len(self.bodies[name]) < SHORT
 
-    def reached_through_short(self, names):
+    def short_below(self, names):
         """Returns the short functions that these call, and those that those call in turn."""
-        found, ways = set(), [it for name in names for it in self.calls[name]]
-        while ways:
-            name = ways.pop()
+        found, left = set(), [it for name in names for it in self.calls[name]]
+        while left:
+            name = left.pop()
             if self.is_short(name) and name not in found:
                 found.add(name)
-                ways += self.calls[name]
+                left += self.calls[name]
         return found
 
     def part(self, own):
-        """Returns the text of a part with these functions and the short ones that they reach."""
-        copies = self.reached_through_short(own)
+        """Returns the text of the part that has these functions."""
+        copies = self.short_below(own)
         called = {it for name in {*own, *copies} for it in self.calls[name]}
         text = [self.rest]
         text += [declared(self.bodies[it]) for it in sorted(called - copies - {*own})]
