@@ -23,7 +23,7 @@ sys.dont_write_bytecode = True
 HERE = os.path.dirname(os.path.abspath(__file__))
 EXAMPLES = os.path.dirname(HERE)
 # the examples, each of which runs on the second list of numbers; the probes run on the first
-PROGRAMS = ["radix_sort", "thread_pool", "philosophers", "readers_writers", "bank", "bank_racy", "matrix", "bounded_buffer", "word_count", "prefix_sums", "quicksort", "two_locks"]
+PROGRAMS = ["radix_sort", "thread_pool", "philosophers", "readers_writers", "bank", "bank_racy", "matrix", "bounded_buffer", "word_count", "prefix_sums", "quicksort", "quicksort_apart", "radix_sort_apart", "extremes", "extremes_apart", "two_locks"]
 # the racy bank's threads run one after another in long shares, as they mostly do natively
 SHARES = {"bank_racy": ["--quantum", "10000"]}
 INPUTS = {"probes": ["0", "5"], "programs": ["5", "3", "9", "1", "7", "12", "2", "8"]}
