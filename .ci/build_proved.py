@@ -104,10 +104,12 @@ class Build:
         return int(one * (1 + (jobs - 1) / 3))
 
     def fits(self, crate, jobs):
-        """Returns whether memory lasts for a check beside those at work. One that was killed is to run alone."""
-        if not self.running:
+        """Returns whether memory lasts for a check beside those at work: alone and on one processor it has to. One that
+        was killed is to run alone."""
+        if not self.running and jobs == 1:
             return True
-        if self.alone.intersection([crate, *[it.crate for it in self.running]]):
+        at_work = [it.crate for it in self.running]
+        if self.running and self.alone.intersection([crate, *at_work]):
             return False
         return sum(it.memory for it in self.running) + self.memory_of(crate, jobs) <= self.memory
 
@@ -125,7 +127,7 @@ class Build:
             if not ready or idle < 1:
                 return
             jobs = max(1, min(MOST_JOBS, idle // len(ready)))
-            while jobs > 1 and self.memory_of(ready[0], jobs) > self.memory - sum(it.memory for it in self.running):
+            while jobs > 1 and not self.fits(ready[0], jobs):
                 jobs -= 1
             if not self.fits(ready[0], jobs):
                 return
@@ -157,7 +159,7 @@ class Build:
         if status < 0:
             raise Stopped(f"the check of {crate} was ended by signal {-status}")
         if status > 0:
-            raise Stopped(f"{last_lines(f'{out}/made/said')}\n{crate} isn't proved; {out}/made/said has all that was said")
+            raise Stopped(f"{crate} isn't proved; the end of {out}/made/said:\n{last_lines(f'{out}/made/said')}")
         if not self.kept.is_unchanged(crate):
             raise Stopped(f"the texts of {crate} changed while it was proved: run it again")
         if crate == PROGRAM:

@@ -68,14 +68,24 @@ def copy_of_toolchain(kit, to):
     return to
 
 
+def write_command(path, text):
+    """Makes a command of this text, in place of one that stands there."""
+    if os.path.lexists(path):
+        os.remove(path)
+    write(path, text)
+    os.chmod(path, 0o755)
+
+
 def toolchain_without_compiler(kit, room):
-    """Makes a toolchain of links in which something else stands for the compiler."""
+    """Makes a toolchain of links in which something else stands for the compiler, and nothing for the prover: a trial run
+    asks that only whether a check would refuse a name, which takes a processor as long as all else."""
     to = copy_of_toolchain(kit, f"{room}/kit")
     os.remove(f"{to}/toolchain")
     links_to(f"{kit}/toolchain", f"{to}/toolchain", ["bin"])
-    links_to(f"{kit}/toolchain/bin", f"{to}/toolchain/bin", ["clang"])
-    write(f"{to}/toolchain/bin/clang", COMPILER.format(checked=CHECKED, room=room, compiler=f"{kit}/toolchain/bin/clang"))
-    os.chmod(f"{to}/toolchain/bin/clang", 0o755)
+    links_to(f"{kit}/toolchain/bin", f"{to}/toolchain/bin")
+    compiler = f"{kit}/toolchain/bin/clang"
+    write_command(f"{to}/toolchain/bin/clang", COMPILER.format(checked=CHECKED, room=room, compiler=compiler))
+    write_command(f"{to}/bin/rattle", "#!/bin/sh\n")
     return to
 
 
@@ -113,8 +123,8 @@ def make_module(tree, room):
     status = run_and_tell([[sys.executable, rt, "try"]], "reading the sources, unproved", room, **how)
     if not os.path.isfile(f"{room}/words"):
         if status == 1:
-            raise Stopped(f"{end_of_said(room)}\nthe sources aren't compiled")
-        raise NoWay(f"{end_of_said(room)}\nits trial run compiles no module of its own")
+            raise Stopped(f"the sources aren't compiled:\n{end_of_said(room)}")
+        raise NoWay(f"its trial run compiles no module of its own:\n{end_of_said(room)}")
     leave = {"-c", "-o", "module.o", "module.bc", "-Werror", CHECKED}
     return [it for it in text_of(f"{room}/words").splitlines() if it not in leave and not it.startswith("-O")]
 
@@ -123,7 +133,7 @@ def read_module(kit, room, words):
     """Returns the module that stands in the room."""
     as_text = [f"{kit}/toolchain/bin/clang", *words, "-S", "-emit-llvm", "-Xclang", "-disable-llvm-passes"]
     if run_and_tell([[*as_text, f"{room}/module.bc", "-o", f"{room}/module.ll"]], "reading the module, unproved", room):
-        raise NoWay(f"{end_of_said(room)}\nthe module can't be read")
+        raise NoWay(f"the module can't be read:\n{end_of_said(room)}")
     try:
         return Module(text_of(f"{room}/module.ll"))
     except (KeyError, TypeError) as why:
@@ -143,7 +153,7 @@ def compile_program(tree, room):
     linking += [f"{kit}/c/libos_c.a", f"{kit}/c/liblibc_c.a"]
     for commands in (compiling, [linking]):
         if run_and_tell(commands, "compiling the program, unproved", room):
-            raise NoWay(f"{end_of_said(room)}\nthe module isn't compiled")
+            raise NoWay(f"the module isn't compiled:\n{end_of_said(room)}")
 
 
 def run(tree):
@@ -157,7 +167,7 @@ def run(tree):
             try:
                 compile_program(tree, room)
             except NoWay as why:
-                say(f"{why}, so that run itself is asked")
+                say(f"the toolchain's own trial run is asked, which keeps nothing, since {why}")
                 return NO_WAY
             os.replace(f"{room}/{PROGRAM}", program)
         write(mark, mark_of_program(key, program))
