@@ -9,6 +9,7 @@ use Rattle.pg_io.specs.Streams.{AppendsFront, TakesAtMost}
 use Rattle.pg_commands_words.specs.Once.{Word}
 use Rattle.pg_commands_words.specs.Commands.{serve}
 use Rattle.pg_session.specs.Lines.{lines_of}
+use Rattle.pg_session.specs.Sessions.{begin}
 use Rattle.pg_session.specs.Texts.{ServesAll, ServesFront, ServesLimit, ServesTaken}
 use Rattle.pg_session.specs.declared.fault.ServeFault.{ServeFault}
 use Rattle.pg_session.specs.declared.fault.ServeFault.TheVariants as fault
@@ -76,7 +77,7 @@ session_due w file p status P f session due =
 
 pub serve_done : (w : World) (file : Word) (quantum : ℕ) (p : NumberedProgram) → Program w file p → Fetches w → w.reads_after ≡ w.reads_before
     → w.writes_after ≡ w.writes_before → TakesAtMost w.rest_before w.rest_after (SESSION_INPUT_LIMIT + 1)
-    → IfSome w.rest_before (ServesAll entry_admits (runs_of p quantum) w.taken_before w.taken_after) → EndsAs w (serve file quantum) Done
+    → IfSome w.rest_before (ServesAll entry_admits (runs_of p quantum) begin w.taken_before w.taken_after) → EndsAs w (serve file quantum) Done
 serve_done w file quantum p f fetches reads writes takes session =
     ends_as w (serve file quantum) Done
     (f.0, f.1, some_map w.rest_before _ _ (λ input s. record { program = p; accepted = f.2; serves = s }) session)
@@ -85,7 +86,7 @@ serve_done w file quantum p f fetches reads writes takes session =
 
 pub serve_limit : (w : World) (file : Word) (quantum : ℕ) (p : NumberedProgram) → Program w file p → Fetches w → w.reads_after ≡ w.reads_before
     → w.writes_after ≡ w.writes_before → TakesAtMost w.rest_before w.rest_after (SESSION_INPUT_LIMIT + 1)
-    → IfSome w.rest_before (ServesLimit entry_admits (runs_of p quantum) w.taken_before w.taken_after) → EndsAs w (serve file quantum) InputLimit
+    → IfSome w.rest_before (ServesLimit entry_admits (runs_of p quantum) begin w.taken_before w.taken_after) → EndsAs w (serve file quantum) InputLimit
 serve_limit w file quantum p f fetches reads writes takes session =
     ends_as w (serve file quantum) InputLimit
     (f.0, f.1, some_map w.rest_before _ _ (λ input s. record { program = p; accepted = f.2; serves = s }) session)
@@ -94,7 +95,7 @@ serve_limit w file quantum p f fetches reads writes takes session =
 
 pub serve_unread : (w : World) (file : Word) (quantum : ℕ) (p : NumberedProgram) → Program w file p → Fetches w → Rose w.reads_before w.reads_after
     → w.writes_after ≡ w.writes_before → TakesAtMost w.rest_before w.rest_after (SESSION_INPUT_LIMIT + 1) → TakesAtMost w.rest_before w.rest_after SESSION_INPUT_LIMIT
-    → IfSome w.rest_before (ServesTaken entry_admits (runs_of p quantum) w.rest_after w.taken_before w.taken_after) → EndsAs w (serve file quantum) ReadFault
+    → IfSome w.rest_before (ServesTaken entry_admits (runs_of p quantum) begin w.rest_after w.taken_before w.taken_after) → EndsAs w (serve file quantum) ReadFault
 serve_unread w file quantum p f fetches rose writes takes within session =
     ends_as w (serve file quantum) ReadFault
     (rose, within, (f.0, f.1, some_map w.rest_before _ _ (λ input s. record { program = p; accepted = f.2; serves = s }) session))
@@ -102,7 +103,7 @@ serve_unread w file quantum p f fetches rose writes takes within session =
 
 -- a front of the replies
 abbrev pub Front : World → ℕ → NumberedProgram → Type 0
-Front w quantum p = IfSome w.rest_before (λ input. ServesFront entry_admits (runs_of p quantum) (lines_of input) w.taken_before w.taken_after)
+Front w quantum p = IfSome w.rest_before (λ input. ServesFront entry_admits (runs_of p quantum) begin (lines_of input) w.taken_before w.taken_after)
 
 replies : (w : World) (file : Word) (quantum : ℕ) (p : NumberedProgram) → Program w file p → Front w quantum p
     → Fetched w.texts file (λ text. IfSome w.rest_before (WritesReplies text quantum w.taken_before w.taken_after))
@@ -127,8 +128,8 @@ abbrev pub Is : ServeFault → ServeFault → Type 0
 Is f x = IsErrOf {T = Unit {0}} {E = ServeFault} (Err f) x
 
 pub serve_stopped : (w : World) (file : Word) (quantum : ℕ) (p : NumberedProgram) (f : ServeFault) → Program w file p → Fetches w
-    → (Is f fault.InputLimit → IfSome w.rest_before (ServesLimit entry_admits (runs_of p quantum) w.taken_before w.taken_after))
-    → (Is f fault.ReadFault → IfSome w.rest_before (ServesTaken entry_admits (runs_of p quantum) w.rest_after w.taken_before w.taken_after))
+    → (Is f fault.InputLimit → IfSome w.rest_before (ServesLimit entry_admits (runs_of p quantum) begin w.taken_before w.taken_after))
+    → (Is f fault.ReadFault → IfSome w.rest_before (ServesTaken entry_admits (runs_of p quantum) begin w.rest_after w.taken_before w.taken_after))
     → (Is f fault.WriteFault → Front w quantum p) → (Is f fault.OutOfMemory → Front w quantum p)
     → (Is f fault.ReadFault → Rose w.reads_before w.reads_after) → (Is f fault.ReadFault → TakesAtMost w.rest_before w.rest_after SESSION_INPUT_LIMIT)
     → (Is f fault.ReadFault) ⊎ (w.reads_after ≡ w.reads_before)

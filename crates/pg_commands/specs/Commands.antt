@@ -10,6 +10,7 @@ use Rattle.pg_commands_words.specs.Commands.{IsServe, Meaning, Means, NoCommand,
 use Rattle.pg_commands_words.specs.declared.values.TheConstants.{DEFAULT_QUANTUM}
 use Rattle.pg_session_trial.specs.Program.{trial_program}
 use Rattle.pg_session.specs.Lines.{lines_of}
+use Rattle.pg_session.specs.Sessions.{begin}
 use Rattle.pg_session.specs.Shows.{IsShowText}
 use Rattle.pg_session.specs.Texts.{ServesAll, ServesFront, ServesLimit, ServesTaken}
 use Rattle.pg_session.specs.Trials.{IsTrialText}
@@ -89,19 +90,19 @@ pub record ServesProgram (text : List ℕ) (quantum : ℕ) (Serves : NumberedPro
 
 -- the replies to all lines
 abbrev pub WritesSession : List ℕ → ℕ → Option (List ℕ) → Option (List ℕ) → List ℕ → Type 0
-WritesSession text quantum old new input = ServesProgram text quantum (λ p. ServesAll entry_admits (runs_of p quantum) old new input)
+WritesSession text quantum old new input = ServesProgram text quantum (λ p. ServesAll entry_admits (runs_of p quantum) begin old new input)
 
 -- the replies to the lines that end within the limit
 abbrev pub WritesLimit : List ℕ → ℕ → Option (List ℕ) → Option (List ℕ) → List ℕ → Type 0
-WritesLimit text quantum old new input = ServesProgram text quantum (λ p. ServesLimit entry_admits (runs_of p quantum) old new input)
+WritesLimit text quantum old new input = ServesProgram text quantum (λ p. ServesLimit entry_admits (runs_of p quantum) begin old new input)
 
 -- the replies to the lines that end in the bytes which were taken before a read failed, where the source has this rest then
 abbrev pub WritesTaken : List ℕ → ℕ → Option (List ℕ) → Option (List ℕ) → Option (List ℕ) → List ℕ → Type 0
-WritesTaken text quantum rest old new input = ServesProgram text quantum (λ p. ServesTaken entry_admits (runs_of p quantum) rest old new input)
+WritesTaken text quantum rest old new input = ServesProgram text quantum (λ p. ServesTaken entry_admits (runs_of p quantum) begin rest old new input)
 
 -- a front of the replies
 abbrev pub WritesReplies : List ℕ → ℕ → Option (List ℕ) → Option (List ℕ) → List ℕ → Type 0
-WritesReplies text quantum old new input = ServesProgram text quantum (λ p. ServesFront entry_admits (runs_of p quantum) (lines_of input) old new)
+WritesReplies text quantum old new input = ServesProgram text quantum (λ p. ServesFront entry_admits (runs_of p quantum) begin (lines_of input) old new)
 
 -- ---- by command. The program text of `serve` and of `show` is that of their file, where the shelf tells it
 

@@ -10,7 +10,7 @@ use crate::replies::write_text;
 use crate::status::Status;
 use pg_commands_words::Serve;
 use pg_io::{Shelf, Sink, Source};
-use pg_session::ServeFault;
+use pg_session::{ServeFault, begin};
 use pg_session_runner::ProgramRunner;
 use std::alloc::Global;
 
@@ -47,8 +47,11 @@ pub(crate) fn serve<S: Source, K: Sink, F: Shelf>(
         Err(NoProgram::ShelfFault) => return Status::ShelfFault,
         Err(NoProgram::OutOfMemory) => return Status::OutOfMemory,
     };
+    let Ok(first) = begin(alloc) else {
+        return Status::OutOfMemory;
+    };
     let mut runner = ProgramRunner::new(&program, command.quantum);
-    match pg_session::serve(alloc, &mut runner, src, out) {
+    match pg_session::serve(alloc, &mut runner, first, src, out) {
         Ok(()) => Status::Done,
         Err(fault) => status_of(fault),
     }
