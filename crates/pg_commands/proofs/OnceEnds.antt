@@ -14,38 +14,38 @@ use Rattle.pg_commands.proofs.CommandEnds.{Says, ends_as, some_map, due_reply, f
 
 -- the shelf isn't used
 abbrev pub Fetches : World → Type 0
-Fetches w = (name : List ℕ) → w.fetches_after name ≡ w.fetches_before name
+Fetches w = (name : List ℕ) → w.shelf.fetches_after name ≡ w.shelf.fetches_before name
 
 -- the reply to the text of the source
 abbrev pub Replied : World → ℕ → List ℤ → Status → List ℕ → Type 0
-Replied w quantum numbers status written = IfSome w.rest_before (λ text. IsReply (IsOnceText text quantum numbers) text status written)
+Replied w quantum numbers status written = IfSome w.source.rest_before (λ text. IsReply (IsOnceText text quantum numbers) text status written)
 
 said : (w : World) (quantum : ℕ) (numbers : List ℤ) (status : Status) (written : List ℕ) → IsReplyStatus status → Replied w quantum numbers status written
-    → Appends w.taken_before w.taken_after written → Says w (once quantum numbers) status
+    → Appends w.sink.taken_before w.sink.taken_after written → Says w (once quantum numbers) status
 said w quantum numbers status written (inl e) r app = subst (Says w (once quantum numbers)) (sym e)
-    (some_map w.rest_before _ _ (λ text t. record { written = written; is_text = t; appended = app }) (subst (λ s. Replied w quantum numbers s written) e r))
+    (some_map w.source.rest_before _ _ (λ text t. record { written = written; is_text = t; appended = app }) (subst (λ s. Replied w quantum numbers s written) e r))
 said w quantum numbers status written (inr e) r app = subst (Says w (once quantum numbers)) (sym e)
-    (some_map w.rest_before _ _ (λ text t. record { written = written; is_text = t; appended = app }) (subst (λ s. Replied w quantum numbers s written) e r))
+    (some_map w.source.rest_before _ _ (λ text t. record { written = written; is_text = t; appended = app }) (subst (λ s. Replied w quantum numbers s written) e r))
 
-once_replied : (w : World) (quantum : ℕ) (numbers : List ℤ) (status : Status) (written : List ℕ) → Fetches w → w.reads_after ≡ w.reads_before
-    → w.writes_after ≡ w.writes_before → TakesAtMost w.rest_before w.rest_after (PROGRAM_TEXT_LIMIT + 1) → IsReplyStatus status
-    → Replied w quantum numbers status written → Appends w.taken_before w.taken_after written → EndsAs w (once quantum numbers) status
+once_replied : (w : World) (quantum : ℕ) (numbers : List ℤ) (status : Status) (written : List ℕ) → Fetches w → w.source.reads_after ≡ w.source.reads_before
+    → w.sink.writes_after ≡ w.sink.writes_before → TakesAtMost w.source.rest_before w.source.rest_after (PROGRAM_TEXT_LIMIT + 1) → IsReplyStatus status
+    → Replied w quantum numbers status written → Appends w.sink.taken_before w.sink.taken_after written → EndsAs w (once quantum numbers) status
 once_replied w quantum numbers status written fetches reads writes takes is r app =
     ends_as w (once quantum numbers) status (said w quantum numbers status written is r app) (none_failed w status fetches reads writes) takes
-    (λ n. some_map w.rest_before _ _ (λ text t. due_reply (IsOnceText text quantum numbers) text written status (λ o. (o.program, o.accepted)) is t) r)
+    (λ n. some_map w.source.rest_before _ _ (λ text t. due_reply (IsOnceText text quantum numbers) text written status (λ o. (o.program, o.accepted)) is t) r)
 
-once_cut : (w : World) (quantum : ℕ) (numbers : List ℤ) (status : Status) (written : List ℕ) → Fetches w → w.reads_after ≡ w.reads_before
-    → Rose w.writes_before w.writes_after → TakesAtMost w.rest_before w.rest_after (PROGRAM_TEXT_LIMIT + 1) → IsReplyStatus status
-    → Replied w quantum numbers status written → AppendsFront w.taken_before w.taken_after written → EndsAs w (once quantum numbers) WriteFault
+once_cut : (w : World) (quantum : ℕ) (numbers : List ℤ) (status : Status) (written : List ℕ) → Fetches w → w.source.reads_after ≡ w.source.reads_before
+    → Rose w.sink.writes_before w.sink.writes_after → TakesAtMost w.source.rest_before w.source.rest_after (PROGRAM_TEXT_LIMIT + 1) → IsReplyStatus status
+    → Replied w quantum numbers status written → AppendsFront w.sink.taken_before w.sink.taken_after written → EndsAs w (once quantum numbers) WriteFault
 once_cut w quantum numbers status written fetches reads rose takes is r cut =
     ends_as w (once quantum numbers) WriteFault
-    (rose, some_map w.rest_before _ _ (λ text t. front_of (IsOnceText text quantum numbers) text written w.taken_before w.taken_after status is t cut) r)
+    (rose, some_map w.source.rest_before _ _ (λ text t. front_of (IsOnceText text quantum numbers) text written w.sink.taken_before w.sink.taken_after status is t cut) r)
     (record { fetches = λ name. inr (fetches name); reads = inr reads; writes = inl refl }) takes (λ n. absurd (n.writes rose))
 
 -- the reply was handed to the sink
-pub once_written : (w : World) (quantum : ℕ) (numbers : List ℤ) (due : Status) (written : List ℕ) (status : Status) → Fetches w → w.reads_after ≡ w.reads_before
-    → TakesAtMost w.rest_before w.rest_after (PROGRAM_TEXT_LIMIT + 1) → IsReplyStatus due → Replied w quantum numbers due written
-    → IsWritten written due w.taken_before w.taken_after w.writes_before w.writes_after status → EndsAs w (once quantum numbers) status
+pub once_written : (w : World) (quantum : ℕ) (numbers : List ℤ) (due : Status) (written : List ℕ) (status : Status) → Fetches w → w.source.reads_after ≡ w.source.reads_before
+    → TakesAtMost w.source.rest_before w.source.rest_after (PROGRAM_TEXT_LIMIT + 1) → IsReplyStatus due → Replied w quantum numbers due written
+    → IsWritten written due w.sink.taken_before w.sink.taken_after w.sink.writes_before w.sink.writes_after status → EndsAs w (once quantum numbers) status
 once_written w quantum numbers due written status fetches reads takes is r (inl h) =
     subst (EndsAs w (once quantum numbers)) (sym h.0) (once_replied w quantum numbers due written fetches reads h.2 takes is r h.1)
 once_written w quantum numbers due written status fetches reads takes is r (inr h) =

@@ -2,7 +2,7 @@
 ghost use Rattle.std.specs.Prelude.{◌≡◌, ◌≤◌, ℕ, List, string_bytes};
 ghost use Rattle.pg_num.specs.declared.limits.TheConstants.{QUANTUM_LIMIT};
 ghost use Rattle.pg_commands_words.specs.Commands.{serve};
-ghost use Rattle.pg_commands.specs.Commands.{EndsAs, world};
+ghost use Rattle.pg_commands.specs.Commands.{EndsAs, shelf_change, sink_change, source_change, world};
 ghost use Rattle.pg_commands.specs.Statuses.{status_of};
 
 use crate::programs::{Loaded, NoProgram, fetch_program};
@@ -36,8 +36,9 @@ pub(crate) fn serve<S: Source, K: Sink, F: Shelf>(
 ) -> Status
     requires least { 1 ≤ command.now.quantum }
     requires most { command.now.quantum ≤ QUANTUM_LIMIT }
-    ensures ends { EndsAs (world (F.text shelf.old) (F.faults shelf.old) (F.faults shelf.new) (S.rest src.old) (S.rest src.new) (S.faults src.old) (S.faults src.new)
-        (K.taken out.old) (K.taken out.new) (K.faults out.old) (K.faults out.new))
+    ensures ends { EndsAs (world (shelf_change (F.text shelf.old) (F.faults shelf.old) (F.faults shelf.new))
+        (source_change (S.rest src.old) (S.rest src.new) (S.faults src.old) (S.faults src.new))
+        (sink_change (K.taken out.old) (K.taken out.new) (K.faults out.old) (K.faults out.new)))
         (serve (string_bytes command.now.file) command.now.quantum) result }
     ensures texts_stay { (name : List ℕ) → F.text shelf.new name ≡ F.text shelf.old name }
 {
