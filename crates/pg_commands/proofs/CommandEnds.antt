@@ -56,10 +56,6 @@ any_one P x h = (0, x, omega arith, refl, h)
 
 -- ---- what was told
 
-pub some_map : (o : Option (List ℕ)) (P Q : List ℕ → Type 0) → ((t : List ℕ) → P t → Q t) → IfSome o P → IfSome o Q
-some_map None P Q f h = tt
-some_map (Some t) P Q f h = f t h
-
 pub some_all : (o : Option (List ℕ)) (P : List ℕ → Type 0) → ((t : List ℕ) → P t) → IfSome o P
 some_all None P f = tt
 some_all (Some t) P f = f t

@@ -10,7 +10,7 @@ use Rattle.pg_commands_words.specs.Once.{Word}
 use Rattle.pg_commands_words.specs.Commands.{serve}
 use Rattle.pg_session.specs.Lines.{lines_of}
 use Rattle.pg_session.specs.Sessions.{begin}
-use Rattle.pg_session.specs.Texts.{ServesAll, ServesFront, ServesLimit, ServesTaken}
+use Rattle.pg_session.specs.Texts.{HasBytes, ServesAll, ServesFront, ServesLimit, ServesTaken}
 use Rattle.pg_session.specs.declared.fault.ServeFault.{ServeFault}
 use Rattle.pg_session.specs.declared.fault.ServeFault.TheVariants as fault
 use Rattle.pg_session_runner.specs.Runs.{entry_admits, runs_of}
@@ -20,7 +20,7 @@ use Rattle.pg_commands.specs.Commands.{World, EndsAs, DueOfText, DueOfInput, Fet
 use Rattle.pg_commands.specs.Replies.{IsWritten}
 use Rattle.pg_commands.specs.Statuses.{status_of}
 use Rattle.pg_commands.specs.Texts.{IsAccepted, IsRefusalLine}
-use Rattle.pg_commands.proofs.CommandEnds.{ends_as, some_map, some_all, some_same, none_failed, stayed}
+use Rattle.pg_commands.proofs.CommandEnds.{ends_as, some_all, some_same, none_failed, stayed}
 use Rattle.pg_commands.proofs.ShowEnds.{Fetches}
 use Rattle.pg_commands.proofs.TextVerdicts.{not_refused}
 
@@ -69,45 +69,45 @@ abbrev pub Program : World → Word → NumberedProgram → Type 0
 Program w file p = Fetched w.shelf.texts file (λ text. IsAccepted text p)
 
 -- what is due where this of the input is known
-session_due : (w : World) (file : Word) (p : NumberedProgram) (status : Status) (P : List ℕ → Type 0) → Program w file p → IfSome w.source.rest_before P
+session_due : (w : World) (file : Word) (p : NumberedProgram) (status : Status) (P : List ℕ → Type 0) → Program w file p → HasBytes w.source.rest_before P
     → ((input : List ℕ) → P input → DueOfInput input status) → IfSome (w.shelf.texts file) (λ text. DueOfSession w text status)
 session_due w file p status P f session due =
     some_same (w.shelf.texts file) (λ text. DueOfSession w text status) f.0 f.1
-    ((λ q a. some_map w.source.rest_before P (λ input. DueOfInput input status) due session), (λ refused. absurd (not_refused f.0 p f.2 refused)))
+    ((λ q a. some_same w.source.rest_before (λ input. DueOfInput input status) session.0 session.1 (due session.0 session.2)), (λ refused. absurd (not_refused f.0 p f.2 refused)))
 
 pub serve_done : (w : World) (file : Word) (quantum : ℕ) (p : NumberedProgram) → Program w file p → Fetches w → w.source.reads_after ≡ w.source.reads_before
     → w.sink.writes_after ≡ w.sink.writes_before → TakesAtMost w.source.rest_before w.source.rest_after (SESSION_INPUT_LIMIT + 1)
-    → IfSome w.source.rest_before (ServesAll entry_admits (runs_of p quantum) begin w.sink.taken_before w.sink.taken_after) → EndsAs w (serve file quantum) Done
+    → HasBytes w.source.rest_before (ServesAll entry_admits (runs_of p quantum) begin w.sink.taken_before w.sink.taken_after) → EndsAs w (serve file quantum) Done
 serve_done w file quantum p f fetches reads writes takes session =
     ends_as w (serve file quantum) Done
-    (f.0, f.1, some_map w.source.rest_before _ _ (λ input s. record { program = p; accepted = f.2; serves = s }) session)
+    (f.0, f.1, record { program = p; accepted = f.2; serves = session })
     (none_failed w Done fetches reads writes) takes
     (λ n. session_due w file p Done _ f session (λ input s. ((λ h. inl refl), (λ h. let t = s.within in absurd (omega (arith, h, t))))))
 
 pub serve_limit : (w : World) (file : Word) (quantum : ℕ) (p : NumberedProgram) → Program w file p → Fetches w → w.source.reads_after ≡ w.source.reads_before
     → w.sink.writes_after ≡ w.sink.writes_before → TakesAtMost w.source.rest_before w.source.rest_after (SESSION_INPUT_LIMIT + 1)
-    → IfSome w.source.rest_before (ServesLimit entry_admits (runs_of p quantum) begin w.sink.taken_before w.sink.taken_after) → EndsAs w (serve file quantum) InputLimit
+    → HasBytes w.source.rest_before (ServesLimit entry_admits (runs_of p quantum) begin w.sink.taken_before w.sink.taken_after) → EndsAs w (serve file quantum) InputLimit
 serve_limit w file quantum p f fetches reads writes takes session =
     ends_as w (serve file quantum) InputLimit
-    (f.0, f.1, some_map w.source.rest_before _ _ (λ input s. record { program = p; accepted = f.2; serves = s }) session)
+    (f.0, f.1, record { program = p; accepted = f.2; serves = session })
     (none_failed w InputLimit fetches reads writes) takes
     (λ n. session_due w file p InputLimit _ f session (λ input s. ((λ h. let t = s.beyond in absurd (omega (arith, h, t))), (λ h. inl refl))))
 
 pub serve_unread : (w : World) (file : Word) (quantum : ℕ) (p : NumberedProgram) → Program w file p → Fetches w → Rose w.source.reads_before w.source.reads_after
     → w.sink.writes_after ≡ w.sink.writes_before → TakesAtMost w.source.rest_before w.source.rest_after (SESSION_INPUT_LIMIT + 1) → TakesAtMost w.source.rest_before w.source.rest_after SESSION_INPUT_LIMIT
-    → IfSome w.source.rest_before (ServesTaken entry_admits (runs_of p quantum) begin w.source.rest_after w.sink.taken_before w.sink.taken_after) → EndsAs w (serve file quantum) ReadFault
+    → ServesTaken entry_admits (runs_of p quantum) begin w.source.rest_before w.source.rest_after w.sink.taken_before w.sink.taken_after → EndsAs w (serve file quantum) ReadFault
 serve_unread w file quantum p f fetches rose writes takes within session =
     ends_as w (serve file quantum) ReadFault
-    (rose, within, (f.0, f.1, some_map w.source.rest_before _ _ (λ input s. record { program = p; accepted = f.2; serves = s }) session))
+    (rose, within, (f.0, f.1, record { program = p; accepted = f.2; serves = session }))
     (record { fetches = λ name. inr (fetches name); reads = inl refl; writes = inr writes }) takes (λ n. absurd (n.reads tt rose))
 
 -- a front of the replies
 abbrev pub Front : World → ℕ → NumberedProgram → Type 0
-Front w quantum p = IfSome w.source.rest_before (λ input. ServesFront entry_admits (runs_of p quantum) begin (lines_of input) w.sink.taken_before w.sink.taken_after)
+Front w quantum p = HasBytes w.source.rest_before (λ input. ServesFront entry_admits (runs_of p quantum) begin (lines_of input) w.sink.taken_before w.sink.taken_after)
 
 replies : (w : World) (file : Word) (quantum : ℕ) (p : NumberedProgram) → Program w file p → Front w quantum p
-    → Fetched w.shelf.texts file (λ text. IfSome w.source.rest_before (WritesReplies text quantum w.sink.taken_before w.sink.taken_after))
-replies w file quantum p f session = (f.0, f.1, some_map w.source.rest_before _ _ (λ input s. record { program = p; accepted = f.2; serves = s }) session)
+    → Fetched w.shelf.texts file (λ text. WritesReplies text quantum w.source.rest_before w.sink.taken_before w.sink.taken_after)
+replies w file quantum p f session = (f.0, f.1, record { program = p; accepted = f.2; serves = session })
 
 pub serve_cut : (w : World) (file : Word) (quantum : ℕ) (p : NumberedProgram) → Program w file p → Fetches w → w.source.reads_after ≡ w.source.reads_before
     → Rose w.sink.writes_before w.sink.writes_after → TakesAtMost w.source.rest_before w.source.rest_after (SESSION_INPUT_LIMIT + 1) → Front w quantum p → EndsAs w (serve file quantum) WriteFault
@@ -128,8 +128,8 @@ abbrev pub Is : ServeFault → ServeFault → Type 0
 Is f x = IsErrOf {T = Unit {0}} {E = ServeFault} (Err f) x
 
 pub serve_stopped : (w : World) (file : Word) (quantum : ℕ) (p : NumberedProgram) (f : ServeFault) → Program w file p → Fetches w
-    → (Is f fault.InputLimit → IfSome w.source.rest_before (ServesLimit entry_admits (runs_of p quantum) begin w.sink.taken_before w.sink.taken_after))
-    → (Is f fault.ReadFault → IfSome w.source.rest_before (ServesTaken entry_admits (runs_of p quantum) begin w.source.rest_after w.sink.taken_before w.sink.taken_after))
+    → (Is f fault.InputLimit → HasBytes w.source.rest_before (ServesLimit entry_admits (runs_of p quantum) begin w.sink.taken_before w.sink.taken_after))
+    → (Is f fault.ReadFault → ServesTaken entry_admits (runs_of p quantum) begin w.source.rest_before w.source.rest_after w.sink.taken_before w.sink.taken_after)
     → (Is f fault.WriteFault → Front w quantum p) → (Is f fault.OutOfMemory → Front w quantum p)
     → (Is f fault.ReadFault → Rose w.source.reads_before w.source.reads_after) → (Is f fault.ReadFault → TakesAtMost w.source.rest_before w.source.rest_after SESSION_INPUT_LIMIT)
     → (Is f fault.ReadFault) ⊎ (w.source.reads_after ≡ w.source.reads_before)

@@ -12,7 +12,7 @@ use Rattle.pg_session_trial.specs.Program.{trial_program}
 use Rattle.pg_session.specs.Lines.{lines_of}
 use Rattle.pg_session.specs.Sessions.{begin}
 use Rattle.pg_session.specs.Shows.{IsShowText}
-use Rattle.pg_session.specs.Texts.{ServesAll, ServesFront, ServesLimit, ServesTaken}
+use Rattle.pg_session.specs.Texts.{HasBytes, ServesAll, ServesFront, ServesLimit, ServesTaken}
 use Rattle.pg_session.specs.Trials.{IsTrialText}
 use Rattle.pg_session_runner.specs.Runs.{entry_admits, runs_of, shown}
 use Rattle.pg_commands.specs.declared.status.Status.{Status}
@@ -95,23 +95,24 @@ pub record ServesProgram (text : List ℕ) (quantum : ℕ) (Serves : NumberedPro
   pub accepted : IsAccepted text program
   pub serves : Serves program
 
--- the replies to all lines
-abbrev pub WritesSession : List ℕ → ℕ → Option (List ℕ) → Option (List ℕ) → List ℕ → Type 0
-WritesSession text quantum old new input = ServesProgram text quantum (λ p. ServesAll entry_admits (runs_of p quantum) begin old new input)
+-- the replies to all lines of what the source had
+abbrev pub WritesSession : List ℕ → ℕ → Option (List ℕ) → Option (List ℕ) → Option (List ℕ) → Type 0
+WritesSession text quantum left old new = ServesProgram text quantum (λ p. HasBytes left (ServesAll entry_admits (runs_of p quantum) begin old new))
 
 -- the replies to the lines that end within the limit
-abbrev pub WritesLimit : List ℕ → ℕ → Option (List ℕ) → Option (List ℕ) → List ℕ → Type 0
-WritesLimit text quantum old new input = ServesProgram text quantum (λ p. ServesLimit entry_admits (runs_of p quantum) begin old new input)
+abbrev pub WritesLimit : List ℕ → ℕ → Option (List ℕ) → Option (List ℕ) → Option (List ℕ) → Type 0
+WritesLimit text quantum left old new = ServesProgram text quantum (λ p. HasBytes left (ServesLimit entry_admits (runs_of p quantum) begin old new))
 
 -- the replies to the lines that end in the bytes which were taken before a read failed, where the source has this rest then
-abbrev pub WritesTaken : List ℕ → ℕ → Option (List ℕ) → Option (List ℕ) → Option (List ℕ) → List ℕ → Type 0
-WritesTaken text quantum rest old new input = ServesProgram text quantum (λ p. ServesTaken entry_admits (runs_of p quantum) begin rest old new input)
+abbrev pub WritesTaken : List ℕ → ℕ → Option (List ℕ) → Option (List ℕ) → Option (List ℕ) → Option (List ℕ) → Type 0
+WritesTaken text quantum left rest old new = ServesProgram text quantum (λ p. ServesTaken entry_admits (runs_of p quantum) begin left rest old new)
 
 -- a front of the replies
-abbrev pub WritesReplies : List ℕ → ℕ → Option (List ℕ) → Option (List ℕ) → List ℕ → Type 0
-WritesReplies text quantum old new input = ServesProgram text quantum (λ p. ServesFront entry_admits (runs_of p quantum) begin (lines_of input) old new)
+abbrev pub WritesReplies : List ℕ → ℕ → Option (List ℕ) → Option (List ℕ) → Option (List ℕ) → Type 0
+WritesReplies text quantum left old new = ServesProgram text quantum (λ p. HasBytes left (λ input. ServesFront entry_admits (runs_of p quantum) begin (lines_of input) old new))
 
--- ---- by command. The program text of `serve` and of `show` is that of their file, where the shelf tells it
+-- ---- by command. The program text of `once` is that which the source had, where it tells it, and that of `serve` and of `show` is
+-- that of their file, where the shelf tells it
 
 -- the names that the command fetches
 abbrev pub names_of : Meaning → List Word
@@ -122,18 +123,18 @@ names_of (trial number) = []
 
 -- a text which is that of the name, where the shelf tells it
 abbrev pub Fetched : (List ℕ → Option (List ℕ)) → Word → (List ℕ → Type 0) → Type 0
-Fetched texts file Says = (text : List ℕ) × IfSome (texts file) (λ t. text ≡ t) × Says text
+Fetched texts file Says = HasBytes (texts file) Says
 
 -- Done: the whole text was written
 abbrev pub WritesWhole : World → Meaning → Type 0
-WritesWhole w (once quantum numbers) = IfSome w.source.rest_before (λ text. WritesText (IsOnceText text quantum numbers) w.sink.taken_before w.sink.taken_after)
-WritesWhole w (serve file quantum) = Fetched w.shelf.texts file (λ text. IfSome w.source.rest_before (WritesSession text quantum w.sink.taken_before w.sink.taken_after))
+WritesWhole w (once quantum numbers) = HasBytes w.source.rest_before (λ text. WritesText (IsOnceText text quantum numbers) w.sink.taken_before w.sink.taken_after)
+WritesWhole w (serve file quantum) = Fetched w.shelf.texts file (λ text. WritesSession text quantum w.source.rest_before w.sink.taken_before w.sink.taken_after)
 WritesWhole w (show file quantum numbers) = Fetched w.shelf.texts file (λ text. WritesText (IsShown text quantum numbers) w.sink.taken_before w.sink.taken_after)
 WritesWhole w (trial number) = WritesText (IsTrial trial_program number) w.sink.taken_before w.sink.taken_after
 
 -- ProgramRefused: the line that says why was written
 abbrev pub WritesRefusal : World → Meaning → Type 0
-WritesRefusal w (once quantum numbers) = IfSome w.source.rest_before (λ text. WritesText (IsRefusalLine text) w.sink.taken_before w.sink.taken_after)
+WritesRefusal w (once quantum numbers) = HasBytes w.source.rest_before (λ text. WritesText (IsRefusalLine text) w.sink.taken_before w.sink.taken_after)
 WritesRefusal w (serve file quantum) = Fetched w.shelf.texts file (λ text. WritesText (IsRefusalLine text) w.sink.taken_before w.sink.taken_after)
 WritesRefusal w (show file quantum numbers) = Fetched w.shelf.texts file (λ text. WritesText (IsRefusalLine text) w.sink.taken_before w.sink.taken_after)
 WritesRefusal w (trial number) = WritesText (IsRefusalLine trial_program) w.sink.taken_before w.sink.taken_after
@@ -149,16 +150,16 @@ pub record FailsToFetch (w : World) (meaning : Meaning) : Type 0 where
 abbrev pub FailsToRead : World → Meaning → Type 0
 FailsToRead w (once quantum numbers) = Rose w.source.reads_before w.source.reads_after × TakesAtMost w.source.rest_before w.source.rest_after PROGRAM_TEXT_LIMIT × (w.sink.taken_after ≡ w.sink.taken_before)
 FailsToRead w (serve file quantum) = Rose w.source.reads_before w.source.reads_after × TakesAtMost w.source.rest_before w.source.rest_after SESSION_INPUT_LIMIT
-    × Fetched w.shelf.texts file (λ text. IfSome w.source.rest_before (WritesTaken text quantum w.source.rest_after w.sink.taken_before w.sink.taken_after))
+    × Fetched w.shelf.texts file (λ text. WritesTaken text quantum w.source.rest_before w.source.rest_after w.sink.taken_before w.sink.taken_after)
 FailsToRead w (show file quantum numbers) = ⊥
 FailsToRead w (trial number) = ⊥
 
 -- a front of the text, or of the line that refuses the program
 abbrev pub WritesFront : World → Meaning → Type 0
-WritesFront w (once quantum numbers) = IfSome w.source.rest_before (λ text.
+WritesFront w (once quantum numbers) = HasBytes w.source.rest_before (λ text.
     WritesTextFront (IsOnceText text quantum numbers) w.sink.taken_before w.sink.taken_after ⊎ WritesTextFront (IsRefusalLine text) w.sink.taken_before w.sink.taken_after)
 WritesFront w (serve file quantum) = Fetched w.shelf.texts file (λ text.
-    IfSome w.source.rest_before (WritesReplies text quantum w.sink.taken_before w.sink.taken_after) ⊎ WritesTextFront (IsRefusalLine text) w.sink.taken_before w.sink.taken_after)
+    WritesReplies text quantum w.source.rest_before w.sink.taken_before w.sink.taken_after ⊎ WritesTextFront (IsRefusalLine text) w.sink.taken_before w.sink.taken_after)
 WritesFront w (show file quantum numbers) = Fetched w.shelf.texts file (λ text.
     WritesTextFront (IsShown text quantum numbers) w.sink.taken_before w.sink.taken_after ⊎ WritesTextFront (IsRefusalLine text) w.sink.taken_before w.sink.taken_after)
 WritesFront w (trial number) = WritesTextFront (IsTrial trial_program number) w.sink.taken_before w.sink.taken_after ⊎ WritesTextFront (IsRefusalLine trial_program) w.sink.taken_before w.sink.taken_after
@@ -170,13 +171,13 @@ FailsToWrite w meaning = Rose w.sink.writes_before w.sink.writes_after × Writes
 -- InputLimit: the source of `serve` has more bytes than a session takes, and the lines within the limit were answered
 abbrev pub ExceedsLimit : World → Meaning → Type 0
 ExceedsLimit w (once quantum numbers) = ⊥
-ExceedsLimit w (serve file quantum) = Fetched w.shelf.texts file (λ text. IfSome w.source.rest_before (WritesLimit text quantum w.sink.taken_before w.sink.taken_after))
+ExceedsLimit w (serve file quantum) = Fetched w.shelf.texts file (λ text. WritesLimit text quantum w.source.rest_before w.sink.taken_before w.sink.taken_after)
 ExceedsLimit w (show file quantum numbers) = ⊥
 ExceedsLimit w (trial number) = ⊥
 
 -- OutOfMemory: nothing was written, or of `serve` a front of the replies
 abbrev pub LacksMemory : World → Meaning → Type 0
-LacksMemory w (serve file quantum) = (w.sink.taken_after ≡ w.sink.taken_before) ⊎ Fetched w.shelf.texts file (λ text. IfSome w.source.rest_before (WritesReplies text quantum w.sink.taken_before w.sink.taken_after))
+LacksMemory w (serve file quantum) = (w.sink.taken_after ≡ w.sink.taken_before) ⊎ Fetched w.shelf.texts file (λ text. WritesReplies text quantum w.source.rest_before w.sink.taken_before w.sink.taken_after)
 LacksMemory w meaning = w.sink.taken_after ≡ w.sink.taken_before
 
 -- the most bytes that are taken from the source: of a program text or of lines, and one more to see that there is one

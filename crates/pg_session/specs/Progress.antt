@@ -87,7 +87,7 @@ pub record HasCut {M : Type 0} (admits : M → List ℤ → Bool) (runs : Runs M
 -- these were all bytes, no more than a session takes. The lines that end in them were answered, and this one has begun
 pub record HasAll {M : Type 0} (admits : M → List ℤ → Bool) (runs : Runs M) (first : Kept M) (left before after : Option (List ℕ)) (kept : Kept M) (line : List ℕ) : Type 0 where
   pub bytes : List ℕ
-  pub whole : IfSome left (λ input. input ≡ bytes)
+  pub whole : IfSome left (λ input. bytes ≡ input)
   pub within : length bytes ≤ SESSION_INPUT_LIMIT
   pub answered : Answered admits runs first (inputs_after [] bytes) kept before after
   pub begun : line ≡ begun_after [] bytes

@@ -1,11 +1,15 @@
 -- What a session writes.
-use Rattle.std.specs.Prelude.{ℕ, ℤ, ◌<◌, ◌≤◌, Bool, List, map, length, take, Option, Some}
+use Rattle.std.specs.Prelude.{◌≡◌, ℕ, ℤ, ◌<◌, ◌≤◌, Bool, List, map, length, take, Option, IfSome}
 use Rattle.std.specs.Io.KnownBytes.{Appends, Consumes}
 use Rattle.pg_io.specs.Streams.{AppendsFront}
 use Rattle.pg_cache.specs.Kept.{Kept}
 use Rattle.pg_num.specs.declared.limits.TheConstants.{SESSION_INPUT_LIMIT}
 use Rattle.pg_session.specs.Lines.{ended_lines, input_of, lines_of}
 use Rattle.pg_session.specs.Sessions.{Answer, AnswersAll, IsSessionText, Runs}
+
+-- bytes of which this holds; where some are told, it is these
+abbrev pub HasBytes : Option (List ℕ) → (List ℕ → Type 0) → Type 0
+HasBytes told Says = (bytes : List ℕ) × IfSome told (λ t. bytes ≡ t) × Says bytes
 
 abbrev pub inputs_of : List (List ℕ) → List (Option (List ℤ))
 inputs_of lines = map input_of lines
@@ -33,10 +37,10 @@ pub record ServesLimit {M : Type 0} (admits : M → List ℤ → Bool) (runs : R
   pub beyond : SESSION_INPUT_LIMIT < length input
   pub serves : Serves admits runs first (ended_lines (take SESSION_INPUT_LIMIT input)) old new
 
--- a read that failed: these bytes were taken of the input before, and this is the rest of it. The lines are answered that end in them
-pub record ServesTaken {M : Type 0} (admits : M → List ℤ → Bool) (runs : Runs M) (first : Kept M) (rest old new : Option (List ℕ)) (input : List ℕ) : Type 0 where
+-- a read that failed: these bytes were taken of what the source had, and this is the rest of it. The lines are answered that end in them
+pub record ServesTaken {M : Type 0} (admits : M → List ℤ → Bool) (runs : Runs M) (first : Kept M) (left rest old new : Option (List ℕ)) : Type 0 where
   pub taken : List ℕ
-  pub consumed : Consumes (Some input) rest taken
+  pub consumed : Consumes left rest taken
   pub within : length taken ≤ SESSION_INPUT_LIMIT
   pub serves : Serves admits runs first (ended_lines taken) old new
 

@@ -6,7 +6,7 @@ ghost use Rattle.pg_num.specs.declared.limits.TheConstants.{CACHE_LIMIT, SESSION
 ghost use Rattle.pg_session.specs.Lines.{lines_of};
 ghost use Rattle.pg_session.specs.Progress.{HasAll, HasAnswered, HasCut, HasTaken, Stands};
 ghost use Rattle.pg_session.specs.Sessions.{IsExact, admits_by};
-ghost use Rattle.pg_session.specs.Texts.{ServesAll, ServesFront, ServesLimit, ServesTaken};
+ghost use Rattle.pg_session.specs.Texts.{HasBytes, ServesAll, ServesFront, ServesLimit, ServesTaken};
 
 use crate::fault::ServeFault;
 use crate::runner::Runner;
@@ -95,11 +95,11 @@ pub(crate) fn take_all<R: Runner, S: Source, K: Sink>(
     ensures all { OnOk result (HasAll (admits_by R.Entry.meaning R.Entry.test)
         (R.runs (R.subject runner.old)) session.old.cache (S.rest src.old) (K.taken out.old) (K.taken out.new) session.new.cache session.new.line.items) }
     ensures input_limit { IsErrOf result ServeFault.InputLimit →
-        IfSome (S.rest src.old) (ServesLimit (admits_by R.Entry.meaning R.Entry.test) (R.runs (R.subject runner.old)) session.old.cache (K.taken out.old) (K.taken out.new)) }
+        HasBytes (S.rest src.old) (ServesLimit (admits_by R.Entry.meaning R.Entry.test) (R.runs (R.subject runner.old)) session.old.cache (K.taken out.old) (K.taken out.new)) }
     ensures read_fault { IsErrOf result ServeFault.ReadFault →
-        IfSome (S.rest src.old) (ServesTaken (admits_by R.Entry.meaning R.Entry.test) (R.runs (R.subject runner.old)) session.old.cache (S.rest src.new) (K.taken out.old) (K.taken out.new)) }
+        ServesTaken (admits_by R.Entry.meaning R.Entry.test) (R.runs (R.subject runner.old)) session.old.cache (S.rest src.old) (S.rest src.new) (K.taken out.old) (K.taken out.new) }
     ensures cut { (IsErrOf result ServeFault.WriteFault ⊎ IsErrOf result ServeFault.OutOfMemory) →
-        IfSome (S.rest src.old) (λ input. ServesFront (admits_by R.Entry.meaning R.Entry.test) (R.runs (R.subject runner.old)) session.old.cache (lines_of input) (K.taken out.old) (K.taken out.new)) }
+        HasBytes (S.rest src.old) (λ input. ServesFront (admits_by R.Entry.meaning R.Entry.test) (R.runs (R.subject runner.old)) session.old.cache (lines_of input) (K.taken out.old) (K.taken out.new)) }
     ensures takes { TakesAtMost (S.rest src.old) (S.rest src.new) (SESSION_INPUT_LIMIT + 1) }
     ensures read_within { IsErrOf result ServeFault.ReadFault → TakesAtMost (S.rest src.old) (S.rest src.new) SESSION_INPUT_LIMIT }
     ensures read_cause { IsErrOf result ServeFault.ReadFault → Rose (S.faults src.old) (S.faults src.new) }
@@ -134,15 +134,15 @@ pub fn serve<R: Runner, S: Source, K: Sink>(
     requires exact { IsExact R.Entry.meaning }
     requires stands { Stands (R.runs (R.subject runner.old)) first }
     requires few { first.inserted ≤ CACHE_LIMIT }
-    ensures done { OnOk result (IfSome (S.rest src.old) (ServesAll (admits_by R.Entry.meaning R.Entry.test) (R.runs (R.subject runner.old)) first (K.taken out.old) (K.taken out.new))) }
+    ensures done { OnOk result (HasBytes (S.rest src.old) (ServesAll (admits_by R.Entry.meaning R.Entry.test) (R.runs (R.subject runner.old)) first (K.taken out.old) (K.taken out.new))) }
     ensures input_limit { IsErrOf result ServeFault.InputLimit →
-        IfSome (S.rest src.old) (ServesLimit (admits_by R.Entry.meaning R.Entry.test) (R.runs (R.subject runner.old)) first (K.taken out.old) (K.taken out.new)) }
+        HasBytes (S.rest src.old) (ServesLimit (admits_by R.Entry.meaning R.Entry.test) (R.runs (R.subject runner.old)) first (K.taken out.old) (K.taken out.new)) }
     ensures read_fault { IsErrOf result ServeFault.ReadFault →
-        IfSome (S.rest src.old) (ServesTaken (admits_by R.Entry.meaning R.Entry.test) (R.runs (R.subject runner.old)) first (S.rest src.new) (K.taken out.old) (K.taken out.new)) }
+        ServesTaken (admits_by R.Entry.meaning R.Entry.test) (R.runs (R.subject runner.old)) first (S.rest src.old) (S.rest src.new) (K.taken out.old) (K.taken out.new) }
     ensures write_fault_cuts { IsErrOf result ServeFault.WriteFault →
-        IfSome (S.rest src.old) (λ input. ServesFront (admits_by R.Entry.meaning R.Entry.test) (R.runs (R.subject runner.old)) first (lines_of input) (K.taken out.old) (K.taken out.new)) }
+        HasBytes (S.rest src.old) (λ input. ServesFront (admits_by R.Entry.meaning R.Entry.test) (R.runs (R.subject runner.old)) first (lines_of input) (K.taken out.old) (K.taken out.new)) }
     ensures out_of_memory_cuts { IsErrOf result ServeFault.OutOfMemory →
-        IfSome (S.rest src.old) (λ input. ServesFront (admits_by R.Entry.meaning R.Entry.test) (R.runs (R.subject runner.old)) first (lines_of input) (K.taken out.old) (K.taken out.new)) }
+        HasBytes (S.rest src.old) (λ input. ServesFront (admits_by R.Entry.meaning R.Entry.test) (R.runs (R.subject runner.old)) first (lines_of input) (K.taken out.old) (K.taken out.new)) }
     ensures read_cause { IsErrOf result ServeFault.ReadFault → Rose (S.faults src.old) (S.faults src.new) }
     ensures read_fault_within { IsErrOf result ServeFault.ReadFault → TakesAtMost (S.rest src.old) (S.rest src.new) SESSION_INPUT_LIMIT }
     ensures read_count { IsErrOf result ServeFault.ReadFault ⊎ (S.faults src.new ≡ S.faults src.old) }
