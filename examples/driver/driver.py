@@ -173,6 +173,7 @@ def answer(words, top, usage):
 
 
 def main(words, top, usage):
+    """Each fault is told in a line, with a status of its own."""
     try:
         return answer(words, top, usage)
     except WrongWords as it:

@@ -40,6 +40,7 @@ def told(line):
 
 
 def check_instruction(module, function, line):
+    """What an instruction's own words refuse, and a local array that is too large."""
     why = told(line)
     if why:
         raise Refused(f"in {function.name}: {why}")
