@@ -59,7 +59,8 @@ def word_global(line):
 
 
 def rewrite_globals(module):
-    """Globals that are declared and not defined, aliases and thread-local ones are refused by the program itself."""
+    """What names a global so that the compiler keeps it, as `@llvm.used`, does nothing here."""
+    module.globals = [line for line in module.globals if not line.startswith(("@llvm.used ", "@llvm.compiler.used "))]
     for lines in (module.types, module.globals):
         for i, line in enumerate(lines):
             with refusals_at(line):
