@@ -85,7 +85,8 @@ def check_variable(module, line):
     if re.search(r"\b(float|double|x86_fp80)\b", words):
         raise Refused(f"{name} holds floating point, which is left out")
     if name.startswith(("llvm.global_ctors", "llvm.global_dtors")) and " [0 x " not in line:
-        raise Refused("a constructor or destructor is left out: call it in main")
+        heads = [it.head for it in module.functions if f"ptr @{it.name}," in line]
+        raise Refused("a constructor or destructor is left out: call it in main", next(iter(heads), None))
     if re.search(r"\b(alias|ifunc)\b", words):
         raise Refused(f"{name} is another name for {line.split('@')[-1]}: write that name in its place")
     # one that is declared alone is told where it is used
