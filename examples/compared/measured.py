@@ -9,6 +9,8 @@ import time
 from tools import EXAMPLES, PROGRAM, built, clang, run, text_of, tools
 
 RUNS = 300
+# of loop.ll, as `pg_bench steps` counts them
+STEPS = 399_999
 REPLY = re.compile(r"^(?:recorded|reused) \d+\n(.*?)^exit (-?\d+) after \d+ turns$", re.M | re.S)
 # a race decides what they print
 RACY = {"bank_racy"}
@@ -74,16 +76,21 @@ def told(pair):
     return f"{1000 * pair[0]:.1f} | {1000 * pair[1]:.1f}"
 
 
+def steps_row(name, words, **more):
+    """A command on loop.ll: its times, and how many of the loop's steps it does in a second, with its start."""
+    pair = best(words, **more)
+    return f"| {name}: {STEPS / 1e6 / pair[0]:.1f} million steps a second | {told(pair)} |"
+
+
 def steps_rows():
-    """loop.ll, of 400,000 steps, by lli's interpreter and by `once`."""
-    loop, rows = f"{EXAMPLES}/loop.ll", []
+    """loop.ll by `once`, by lli's interpreter, and compiled."""
+    loop, lli = f"{EXAMPLES}/loop.ll", clang().replace("clang", "lli")
     with open(loop, encoding="utf-8") as it:
-        text = it.read()
-    rows.append(f"| `once` on loop.ll, 399,999 steps | {told(best([PROGRAM, 'once'], input=text))} |")
-    lli = clang().replace("clang", "lli")
+        rows = [steps_row("`once < loop.ll`", [PROGRAM, "once"], input=it.read())]
     if shutil.which(lli):
-        rows.append(f"| `{lli} -jit-kind=mcjit -force-interpreter` on it | {told(best([lli, '-jit-kind=mcjit', '-force-interpreter', loop]))} |")
-        rows.append(f"| `{lli}`, which compiles it | {told(best([lli, loop]))} |")
+        interpreter = [lli, "-jit-kind=mcjit", "-force-interpreter"]
+        rows.append(steps_row(f"`{' '.join(interpreter)} loop.ll`", [*interpreter, loop]))
+        rows.append(steps_row(f"`{lli} loop.ll`, which compiles it", [lli, loop]))
     return rows
 
 
