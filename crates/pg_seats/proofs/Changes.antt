@@ -77,7 +77,7 @@ in_list (x ∷ xs) (suc i) a b e = in_list xs i a b e
 module _ (run : Run) (words : List ℕ) (views : List View) (h : Keeps run words views) where
   -- a thread with parts stands at the next turn
   pub under_way : (t : ℕ) → 0 < h.seats.parts t → Due run t (done_of h.stands t) h.turns
-  under_way t some = go (cases_lt t h.seats.made)
+  under_way t has = go (cases_lt t h.seats.made)
     where
       go : (t < h.seats.made) ⊎ (h.seats.made ≤ t) → Due run t (done_of h.stands t) h.turns
       go (inr l) = let e = (h.unseated t l).1 in absurd (omega arith)

@@ -5,3 +5,10 @@ pub mod Cells
 pub mod Parts
 pub mod Changes
 pub mod Moves
+pub mod Ranges
+pub mod Loads
+pub mod Stores
+pub mod TurnParts
+pub mod SeatSteps
+pub mod Begins
+pub mod SeatLaws

@@ -266,12 +266,12 @@ module _ (words : List ℕ) (views : List View) (id : ℕ) (w : Standing) (h : K
           turn_cells words (suc h.turns) b ∙ cells_are b lt ∙ ap (λ k. over (Some x) k b ((left_by (first_of w.run) h.stands).cells b)) all
           ∙ over_all x (runs.shape w.run h.run_is w.thread w.done x next) b ((left_by (first_of w.run) h.stands).cells b) ∙ goes_on.leaves.cells b
           ∙ sym (turn_none w.run (done_of goes_on.stands) (put_at h.seats.parts w.thread 0) (slice_get T (suc h.turns)) b ((left_by (first_of w.run) goes_on.stands).cells b)
-          (λ t e. none t (cases_eq t w.thread)));
+          (λ t e. no_parts_left t (cases_eq t w.thread)));
     })
       where
-        none : (t : ℕ) → (t ≡ w.thread) ⊎ (t ≡ w.thread → ⊥) → put_at h.seats.parts w.thread 0 t ≡ 0
-        none t (inl q) = put_here h.seats.parts w.thread 0 t q
-        none t (inr ne) = put_else h.seats.parts w.thread 0 t ne ∙ go (cases_lt 0 (h.seats.parts t))
+        no_parts_left : (t : ℕ) → (t ≡ w.thread) ⊎ (t ≡ w.thread → ⊥) → put_at h.seats.parts w.thread 0 t ≡ 0
+        no_parts_left t (inl q) = put_here h.seats.parts w.thread 0 t q
+        no_parts_left t (inr ne) = put_else h.seats.parts w.thread 0 t ne ∙ go (cases_lt 0 (h.seats.parts t))
           where
             go : (0 < h.seats.parts t) ⊎ (h.seats.parts t ≤ 0) → h.seats.parts t ≡ 0
             go (inr l) = omega arith

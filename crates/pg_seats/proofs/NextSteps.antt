@@ -51,9 +51,6 @@ module _ {L B Y E : Type 0} (u : ℕ) where
       n : ℕ
       n = count_done deeds (ms ++ pending p ∷ ns) u
 
-      passed : (k : ℕ) → cond false (m.step.did ∷ before u k ds) (m.step.did ∷ before u (suc k) ds) ≡ m.step.did ∷ before u (suc k) ds
-      passed k = refl
-
       skip : (k : ℕ) → (u == m.step.did.thread) ≡ false → before u k (m.step.did ∷ ds) ≡ m.step.did ∷ before u k ds
       skip zero v = rw v refl
       skip (suc k) v = rw v refl
@@ -106,7 +103,7 @@ module _ {L B Y E : Type 0} (T : List ℕ) (plan : List (Deed L B Y E)) (is_plan
               (sym (subst (λ ms. slice_get (own u (whole ms)) (count_done deeds ms u) ≡ Some f.step) (sym f.parts) (at_count deeds u f.before f.step f.after f.thread f.earlier alone)) ∙ there)
 
   module _ (u : ℕ) (x : Timed (Deed L B Y E)) (at : slice_get (own u (times deeds T 0 plan)) (done_of c u) ≡ Some x) where
-    n : Next u x
+    abbrev n : Next u x
     n = next_at u x at
 
     -- none of its turns is done
@@ -158,10 +155,10 @@ module _ {L B Y E : Type 0} (T : List ℕ) (plan : List (Deed L B Y E)) (is_plan
   -- the next steps of two threads write no cell that the other touches, where each is plain or the next turn
   module _ (t u : ℕ) (x y : Timed (Deed L B Y E)) (at : slice_get (own t (times deeds T 0 plan)) (done_of c t) ≡ Some x) (bt : slice_get (own u (times deeds T 0 plan)) (done_of c u) ≡ Some y)
       (due : deeds.is_event x.did ≡ true → x.high ≡ g) (due' : deeds.is_event y.did ≡ true → y.high ≡ g) (threads : t ≢ u) where
-    n' : Next t x
+    abbrev n' : Next t x
     n' = next_at t x at
 
-    k' : Next u y
+    abbrev k' : Next u y
     k' = next_at u y bt
 
     pub apart : (b : ℕ) → touches deeds x.did b ≡ true → deeds.writes y.did b ≡ true → ⊥

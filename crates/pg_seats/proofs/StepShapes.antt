@@ -66,7 +66,7 @@ module _ (p : NumberedProgram) (s : State) (t : ℕ) where
   request_word : (r : Request) (u : ℕ) → is_some (word_in t (request_effect p s t (actions.Event r)) u) ≡ true → kind_leaves (kind_of r) ≡ true
   request_word (requests.Create at f n) u h = refl
   request_word (requests.Exit n is_return) u h = refl
-  request_word r u h = absurd (none_if (u == t) h)
+  request_word r u h = absurd (none_if (t == u) h)
 
   request_one : (r : Request) (u v : ℕ) → is_some (word_in t (request_effect p s t (actions.Event r)) u) ≡ true → is_some (word_in t (request_effect p s t (actions.Event r)) v) ≡ true → u ≡ v
   request_one (requests.Create at f n) u v h k =

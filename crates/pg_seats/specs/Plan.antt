@@ -56,3 +56,7 @@ before t (suc m) (d ∷ ds) = if t == d.thread then d ∷ before t m ds else d �
 -- the cells as shared step m of thread t finds them in that run: the bytes of memory, and behind them a word for each thread
 unfoldable pub cells_there : Run → ℕ → ℕ → ℕ → ℕ
 cells_there r t m = (effects (first_of r) (before t m (plan_of r))).cells
+
+-- some run, for a name that names none
+abbrev pub no_run : Run
+no_run = run_of (record { functions = []; blocks = []; instrs = []; globals = []; main = 0 }) (record { turns = []; replies = []; gated = [] }) []

@@ -1,8 +1,10 @@
 -- What a view says of the run that it holds: the next shared step of its thread, what its seat may do, and what each step makes of it.
-use Rattle.std.specs.Prelude.{◌≡◌, ℕ, suc, ◌+◌, ◌≤◌, ◌==◌, ◌&&◌, not, nat_lt, max, Bool, true, false, Option, Some, None, is_some, slice_get, if◌then◌else◌, ⊤}
+use Rattle.std.specs.Prelude.{◌≡◌, ℕ, suc, ◌+◌, ◌*◌, ◌<◌, ◌≤◌, ◌==◌, ◌&&◌, not, nat_lt, max, Bool, true, false, Option, Some, None, is_some, slice_get, if◌then◌else◌, ⊤}
 use Rattle.pg_num.specs.Places.{ByteRange}
 use Rattle.pg_num.specs.declared.layout.TheConstants.{MEMORY_BYTES}
-use Rattle.pg_run_memory.specs.Bytes.{number_of}
+use Rattle.pg_num.specs.declared.limits.TheConstants.{THREAD_LIMIT}
+use Rattle.pg_run_memory.specs.Bytes.{byte_of, number_of}
+use Rattle.pg_run_memory.specs.Initial.{initial_byte}
 use Rattle.pg_law_threads.specs.Effects.{deeds, or_old}
 use Rattle.pg_law_threads.specs.Intervals.{Timed}
 use Rattle.pg_run_trace.specs.declared.step.Access.{Access}
@@ -64,6 +66,10 @@ number_there v r = 0
 abbrev pub word_there : View → ℕ → ℕ
 word_there (Worker w) t = cells_there w.run w.thread w.done (MEMORY_BYTES + t)
 word_there v t = 0
+
+-- a cell of the run: a byte of memory, or a thread's word behind memory
+abbrev pub IsCell : ℕ → Type 0
+IsCell b = b < MEMORY_BYTES + THREAD_LIMIT
 
 -- ---- the parts of a turn: a word of a thread that it leaves, and then a store
 
@@ -215,3 +221,25 @@ IsAhead v n = ⊤
 abbrev pub IsNow : View → ℕ → Type 0
 IsNow (Worker w) n = (is_due w n ≡ true) × (w.seen ≤ n)
 IsNow v n = ⊤
+
+-- ---- words that are made ready for a run
+
+abbrev pub laid : View → ℕ → View
+laid (Laying r n) k = Laying r (suc k)
+laid v k = v
+
+abbrev pub pooled : View → View
+pooled (Laying r n) = Pool r 0
+pooled v = v
+
+-- the run begins with this word in granule k, and with zeros in those between it and the last that was laid
+abbrev pub MayLay : View → ℕ → ℕ → Type 0
+MayLay (Laying r n) k word =
+    (n ≤ k) × ((b : ℕ) → 8 * n ≤ b → b < 8 * k → initial_byte r.program.globals b ≡ 0)
+    × ((j : ℕ) → j < 8 → byte_of word j ≡ initial_byte r.program.globals (8 * k + j))
+MayLay v k word = ⊥
+
+-- it begins with zeros behind the last granule that was laid
+abbrev pub MayOpen : View → Type 0
+MayOpen (Laying r n) = (b : ℕ) → 8 * n ≤ b → b < MEMORY_BYTES → initial_byte r.program.globals b ≡ 0
+MayOpen v = ⊥

@@ -125,7 +125,7 @@ impl<V, K, R: TableRule<(), V, K>> Words<V, K, R> {
     {
         self.table
             .shared
-            .load::<M>(seat, (THREAD_WORDS + thread.0) as usize)
+            .load::<M>(seat, THREAD_WORDS as usize + thread.0 as usize)
     }
 
     /// Stores the word of a thread.
@@ -138,7 +138,7 @@ impl<V, K, R: TableRule<(), V, K>> Words<V, K, R> {
     {
         self.table
             .shared
-            .store::<M>(seat, (THREAD_WORDS + thread.0) as usize, number);
+            .store::<M>(seat, THREAD_WORDS as usize + thread.0 as usize, number);
     }
 
     /// Cuts what a seat knows in two, and gives a new seat with the second part.
