@@ -1,9 +1,8 @@
 -- The words at rest, and made ready for a run.
-use Rattle.std.proofs.Common.{◌≡◌, ◌≢◌, ℕ, zero, suc, [], ◌∷◌, ◌++◌, ◌+◌, ◌-◌, ◌*◌, ◌/◌, ◌%◌, ◌^◌, ◌<◌, ◌≤◌, ◌⊎◌, inl, inr, ⊎_elim, Bool, true, false, length, replicate, map, Option, Some, None, List, set, get_or, refl, sym, ap, ◌∙◌, subst, arith, length-set, get_or-set_same, get_or-set_other}
+use Rattle.std.proofs.Common.{◌≡◌, ◌≢◌, ℕ, zero, suc, [], ◌∷◌, ◌++◌, ◌+◌, ◌-◌, ◌*◌, ◌/◌, ◌%◌, ◌^◌, ◌<◌, ◌≤◌, ◌⊎◌, inl, inr, ⊎_elim, Bool, true, false, length, Option, Some, None, List, set, get_or, refl, sym, ap, ◌∙◌, subst, arith, length-set, get_or-set_same, get_or-set_other}
 use Rattle.std.specs.Prelude.{slice_get, slice_index, nat_lt, if◌then◌else◌}
 use Rattle.std.specs.List.{AllByRecursion as AllOf}
 use Rattle.std.proofs.lemmas.Bool.{cases_lt, cases_eq, lt-ltb, le-ltb}
-use Rattle.std.proofs.lemmas.List.{get_or-replicate}
 use mathlib.Core.Option.{some, some-injective, some-ne-none}
 use lib.ListN.{get_elem?}
 use Rattle.atomic_table.specs.Table.{State, Allows, keeps, opening}
@@ -41,22 +40,6 @@ use Rattle.pg_seats.proofs.Parts.{turn_none}
 
 -- ---- the first words
 
-zeros_at : (n i : ℕ) → slice_index (replicate {A = ℕ} n 0) i ≡ 0
-zeros_at n i = go (cases_lt i n)
-  where
-    past : (n i : ℕ) → n ≤ i → get_or (replicate {A = ℕ} n 0) i 0 ≡ 0
-    past zero i l = refl
-    past (suc n) zero l = refl
-    past (suc n) (suc i) l = past n i (omega arith)
-
-    go : (i < n) ⊎ (n ≤ i) → slice_index (replicate {A = ℕ} n 0) i ≡ 0
-    go (inl l) = get_or-replicate n i 0 0 l
-    go (inr l) = past n i l
-
-length_zeros : (n : ℕ) → length (replicate {A = ℕ} n 0) ≡ n
-length_zeros zero = refl
-length_zeros (suc n) = ap suc (length_zeros n)
-
 one_view : (v : View) → IsAlone v (v ∷ [])
 one_view v = record { only = only; one = one }
   where
@@ -69,8 +52,8 @@ one_view v = record { only = only; one = one }
     one zero (suc j) e f = absurd (some-ne-none v (sym f))
     one (suc i) j e f = absurd (some-ne-none v (sym e))
 
-pub at_rest : Holds (opening {S = NoSlot} (replicate {A = ℕ} WORD_COUNT 0) [] Idle)
-at_rest = inl (record { wide = length_zeros WORD_COUNT; zeros = zeros_at WORD_COUNT; alone = one_view Idle })
+pub at_rest : (words : List ℕ) → length words ≡ WORD_COUNT → ((i : ℕ) → slice_index words i ≡ 0) → Holds (opening {S = NoSlot} words [] Idle)
+at_rest words wide zeros = inl (record { wide = wide; zeros = zeros; alone = one_view Idle })
 
 -- ---- one seat that is alone
 
@@ -156,7 +139,7 @@ lays id (Laying q n, l) r word inside e = λ s holds len at small.
       keeps,
       tt,
       inr (q, inl (suc (r.start / 8), laid_more s h at)),
-      ap (λ k. (Laying q (suc k), l)) (omega arith),
+      (let j : r.start / 8 ≡ granule_word r - GRANULE_WORDS = omega arith in ap (λ k. (Laying q (suc k), l)) j),
     )
   where
     laid_more : (s : State NoSlot View) → Lays q n s.words s.views → get_elem? s.views id ≡ some (Laying q n) → Lays q (suc (r.start / 8)) (set s.words (granule_word r) word) (set s.views id (Laying q (suc (r.start / 8))))
@@ -179,7 +162,7 @@ lays id (Laying q n, l) r word inside e = λ s holds len at small.
             → byte_of (slice_index (set s.words (granule_word r) word) (GRANULE_WORDS + b / 8)) (b % 8) ≡ initial_byte q.program.globals b
         byte b (inl f) j =
             ap (λ i. byte_of (slice_index (set s.words (granule_word r) word) (GRANULE_WORDS + i)) (b % 8)) f ∙ ap (λ v. byte_of v (b % 8)) here ∙ e.2 (b % 8) (omega arith)
-            ∙ ap (initial_byte q.program.globals) (omega (arith, f))
+            ∙ (let z : 8 * (r.start / 8) + b % 8 ≡ b = omega (arith, f) in ap (initial_byte q.program.globals) z)
         byte b (inr ne) j = ap (λ v. byte_of v (b % 8)) (other (GRANULE_WORDS + b / 8) (λ z. ne (omega arith))) ∙ old (cases_lt b (8 * n))
           where
             old : (b < 8 * n) ⊎ (8 * n ≤ b) → byte_of (slice_index s.words (GRANULE_WORDS + b / 8)) (b % 8) ≡ initial_byte q.program.globals b

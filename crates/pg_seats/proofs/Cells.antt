@@ -88,7 +88,7 @@ module _ (words : List ℕ) (t number : ℕ) (wide : length words ≡ WORD_COUNT
 
   pub word_here : cell_in said (MEMORY_BYTES + t) ≡ number
   word_here = rw (le-ltb (MEMORY_BYTES + t) MEMORY_BYTES (omega arith))
-      (ap (λ j. slice_index said (THREAD_WORDS + j)) (omega arith) ∙ get_or-set_same words (thread_word t) number 0 (omega (arith, wide, inside)))
+      (let e : MEMORY_BYTES + t - MEMORY_BYTES ≡ t = omega arith in ap (λ j. slice_index said (THREAD_WORDS + j)) e ∙ get_or-set_same words (thread_word t) number 0 (omega (arith, wide, inside)))
 
   pub word_other : (b : ℕ) → MEMORY_BYTES ≤ b → b ≢ MEMORY_BYTES + t → cell_in said b ≡ cell_in words b
   word_other b l ne = rw (le-ltb b MEMORY_BYTES l) (not_said (THREAD_WORDS + (b - MEMORY_BYTES)) (λ e. ne (omega arith)))

@@ -72,7 +72,7 @@ module _ (words : List ℕ) (views : List View) (id : ℕ) (w : Standing) (h : K
             own (inr ne) = parts (cases_lt 0 (h.seats.parts u))
               where
                 parts : (0 < h.seats.parts u) ⊎ (h.seats.parts u ≤ 0) → over (slice_get (own_of w.run u) (done_of h.stands u)) (h.seats.parts u) b v ≡ v
-                parts (inr l) = ap (λ k. over (slice_get (own_of w.run u) (done_of h.stands u)) k b v) (omega arith) ∙ over_none (slice_get (own_of w.run u) (done_of h.stands u)) b v
+                parts (inr l) = let z : h.seats.parts u ≡ 0 = omega arith in ap (λ k. over (slice_get (own_of w.run u) (done_of h.stands u)) k b v) z ∙ over_none (slice_get (own_of w.run u) (done_of h.stands u)) b v
                 parts (inl l) =
                     let d = under_way w.run words views h u l in
                     ap (λ o. over o (h.seats.parts u) b v) d.next

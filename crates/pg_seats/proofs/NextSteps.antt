@@ -110,14 +110,14 @@ module _ {L B Y E : Type 0} (T : List ℕ) (plan : List (Deed L B Y E)) (is_plan
     pub ahead : g ≤ x.high
     ahead = cuts.p_high deeds T plan is_plan g n.before n.after x n.whole_is n.cut_is n.below_is n.earlier
 
-    pub splits : (rest : List (Deed L B Y E)) × (plan ≡ before u (done_of c u) plan ++ x.did ∷ rest)
-    splits = (did_of (whole n.after), cuts.split_steps deeds T plan is_plan g n.before n.after x n.whole_is n.cut_is n.below_is n.earlier ∙ ap (λ l. l ++ x.did ∷ did_of (whole n.after)) (sym front))
-
     front : before u (done_of c u) plan ≡ did_of (whole n.before)
     front =
         ap (before u (done_of c u)) (sym (ap did_of n.whole_is ∙ did_times deeds T 0 plan))
         ∙ ap (λ ms. before u (count_done deeds ms u) (did_of (whole (n.before ++ pending x ∷ n.after)))) n.parts
         ∙ before_first u n.before x n.after n.thread (all_map (λ m h w e. h w (e ∙ sym n.thread)) n.before n.earlier) n.later
+
+    pub splits : (rest : List (Deed L B Y E)) × (plan ≡ before u (done_of c u) plan ++ x.did ∷ rest)
+    splits = (did_of (whole n.after), cuts.split_steps deeds T plan is_plan g n.before n.after x n.whole_is n.cut_is n.below_is n.earlier ∙ ap (λ l. l ++ x.did ∷ did_of (whole n.after)) (sym front))
 
     module _ (due : deeds.is_event x.did ≡ true → x.high ≡ g) where
       next : deeds.is_event x.did ≡ true → slice_get T g ≡ Some x.did.thread

@@ -93,19 +93,22 @@ in_range : (r : ByteRange) (k : ℕ) → k < r.bytes → is_in r (r.start + k) �
 in_range r k l = rw (le-leb r.start (r.start + k) (omega arith), lt-ltb (r.start + k) (r.start + r.bytes) (omega arith)) refl
 
 reads_byte : (r : ByteRange) (o : Option Access) → At r false o → (b : ℕ) → is_in r b ≡ true → reads_in o b ≡ true
-reads_byte r o h b l = ap (λ q. reads_in q b) h.is ∙ (rw (h.kind, h.range) l)
+reads_byte r o h b l = ap (λ q. reads_in q b) h.is ∙ ap (λ w. not w && is_in (range_of h.access) b) h.kind ∙ ap (λ q. is_in q b) h.range ∙ l
 
 writes_byte : (r : ByteRange) (o : Option Access) → At r true o → (b : ℕ) → is_in r b ≡ true → writes_in o b ≡ true
-writes_byte r o h b l = ap (λ q. writes_in q b) h.is ∙ (rw (h.kind, h.range) l)
+writes_byte r o h b l = ap (λ q. writes_in q b) h.is ∙ ap (λ w. w && is_in (range_of h.access) b) h.kind ∙ ap (λ q. is_in q b) h.range ∙ l
 
 pub written_none : (r : ByteRange) (o : Option Access) → At r false o → (b : ℕ) → written_by o b ≡ None
-written_none r o h b = ap (λ q. written_by q b) h.is ∙ (rw h.kind refl)
+written_none r o h b = ap (λ q. written_by q b) h.is ∙ ap (λ w. if w && is_in (range_of h.access) b then Some (byte_of h.access.number (b - (range_of h.access).start)) else None) h.kind
 
 number_same : (n : ℕ) (o : Option Access) (a : Access) → o ≡ Some a → has_number n o ≡ true → a.number ≡ n
 number_same n o a e h = eqb-true a.number n (ap (has_number n) (sym e) ∙ h)
 
 pub written_is : (r : ByteRange) (n : ℕ) (o : Option Access) → At r true o → has_number n o ≡ true → (b : ℕ) → written_by o b ≡ (if is_in r b then Some (byte_of n (b - r.start)) else None)
-written_is r n o h k b = ap (λ q. written_by q b) h.is ∙ (rw (h.kind, h.range, number_same n o h.access h.is k) refl)
+written_is r n o h k b =
+    ap (λ q. written_by q b) h.is ∙ ap (λ w. if w && is_in (range_of h.access) b then Some (byte_of h.access.number (b - (range_of h.access).start)) else None) h.kind
+    ∙ ap (λ (q : ByteRange). if is_in q b then Some (byte_of h.access.number (b - q.start)) else None) h.range
+    ∙ ap (λ m. if is_in r b then Some (byte_of m (b - r.start)) else None) (number_same n o h.access h.is k)
 
 or_left : (a b : Bool) → a ≡ true → (a || b) ≡ true
 or_left a b e = ap (λ c. c || b) e

@@ -115,11 +115,11 @@ hears id (Worker w, l) t inside e = λ s holds len at small.
       keeps,
       tt,
       inr (w.run, inr (kept_all s id (thread_word t) w h at)),
-      (refl, (λ u q. subst (λ k. slice_index s.words (thread_word t) ≡ word_there (Worker w) k) (omega arith) (cell s.words ∙ found))),
+      (refl, (λ u q. let e : t ≡ u = omega arith in subst (λ k. slice_index s.words (thread_word t) ≡ word_there (Worker w) k) e (cell s.words ∙ found))),
     )
   where
     cell : (words : List ℕ) → slice_index words (thread_word t) ≡ cell_in words (MEMORY_BYTES + t)
-    cell words = rw (le-ltb (MEMORY_BYTES + t) MEMORY_BYTES (omega arith)) (ap (λ j. slice_index words (THREAD_WORDS + j)) (omega arith))
+    cell words = rw (le-ltb (MEMORY_BYTES + t) MEMORY_BYTES (omega arith)) (let e : t ≡ MEMORY_BYTES + t - MEMORY_BYTES = omega arith in ap (λ j. slice_index words (THREAD_WORDS + j)) e)
 
 -- ---- the end of a turn
 

@@ -1,6 +1,6 @@
 //! The words and the calls on them.
 
-ghost use Rattle.std.specs.Prelude.{◌≡◌, ℕ, ◌+◌, ◌-◌, ◌*◌, ◌<◌, ◌≤◌, ◌^◌, [], replicate, IfOk};
+ghost use Rattle.std.specs.Prelude.{◌≡◌, ℕ, ◌+◌, ◌-◌, ◌*◌, ◌<◌, ◌≤◌, ◌^◌, List, [], length, slice_index, IfOk};
 ghost use mathlib.Core.Option.{none};
 ghost use Rattle.atomic_table.specs.Table.{Joins, Splits, opening, step};
 ghost use Rattle.pg_num.specs.declared.limits.TheConstants.{THREAD_LIMIT};
@@ -29,12 +29,12 @@ pub struct Words<V, K, R: TableRule<(), V, K>> {
 impl<V, K, R: TableRule<(), V, K>> Words<V, K, R> {
     /// The words, all 0, and the first seat.
     pub fn new(alloc: Global, about: &K) -> Result<(Words<V, K, R>, RunSeat<V>), AllocError>
-        requires rule { R.holds about.now (opening (replicate WORD_COUNT 0) [] (R.first about.now)) }
+        requires rule { (words : List ℕ) → length words ≡ WORD_COUNT → ((i : ℕ) → slice_index words i ≡ 0) → R.holds about.now (opening words [] (R.first about.now)) }
         ensures key { IfOk result (λ t. t.0.table.shared.key ≡ about.now) }
         ensures seat { IfOk result (λ t. (t.1.table_id ≡ t.0.table.shared.table_id) × (t.1.me ≡ (R.first about.now, []))) }
     {
-        let zeros = zeros(alloc)?;
-        let (table, seat) = Table::of_words(alloc, zeros.as_slice(), about)?;
+        let words = zeros(alloc, WORD_COUNT as usize)?;
+        let (table, seat) = Table::of_words(alloc, words.as_slice(), about)?;
         Ok((Words { table }, seat))
     }
 
@@ -181,8 +181,11 @@ fn mask(bytes: u8) -> u64
     u64::MAX >> (64 - 8 * bytes)
 }
 
-fn zeros(alloc: Global) -> Result<Vec<u64>, AllocError>
-    ensures { IfOk result (λ v. v.items ≡ replicate WORD_COUNT 0) }
+#[tactic(auto, using(crate::proofs::Zeros::zeros_length, crate::proofs::Zeros::zeros_at))]
+fn zeros(alloc: Global, count: usize) -> Result<Vec<u64>, AllocError>
+    ensures length { IfOk result (λ v. length v.items ≡ count) }
+    ensures zeros { IfOk result (λ v. (i : ℕ) → slice_index v.items i ≡ 0) }
 {
-    Vec::from_elem(alloc, 0u64, WORD_COUNT as usize)
+    let words = Vec::from_elem(alloc, 0u64, count)?;
+    Ok(words)
 }
