@@ -182,11 +182,11 @@ module _ {A : Type 0} where
   open_all [] = []
   open_all (x ∷ xs) = pending x ∷ open_all xs
 
-  whole_open : (xs : List A) → whole (open_all xs) ≡ xs
+  pub whole_open : (xs : List A) → whole (open_all xs) ≡ xs
   whole_open [] = refl
   whole_open (x ∷ xs) = ap (λ l. x ∷ l) (whole_open xs)
 
-  kept_open : (xs : List A) → kept (open_all xs) ≡ []
+  pub kept_open : (xs : List A) → kept (open_all xs) ≡ []
   kept_open [] = refl
   kept_open (x ∷ xs) = kept_open xs
 
@@ -194,11 +194,11 @@ none_done : (xs : List (Timed Did)) (P : Timed Did → Type 0) → AllOf (λ (m 
 none_done [] P = tt
 none_done (x ∷ xs) P = ((λ e. absurd cc), none_done xs P)
 
-cut_open : (xs : List (Timed Did)) → IsCut deeds (open_all xs)
+pub cut_open : (xs : List (Timed Did)) → IsCut deeds (open_all xs)
 cut_open [] = tt
 cut_open (x ∷ xs) = ((λ e. none_done xs (λ y. deeds.thread y.did ≢ deeds.thread x.did)), cut_open xs)
 
-below_open : (xs : List (Timed Did)) → IsBelow 0 (open_all xs)
+pub below_open : (xs : List (Timed Did)) → IsBelow 0 (open_all xs)
 below_open [] = tt
 below_open (x ∷ xs) = (record { if_done = λ e. absurd cc; if_open = λ e. omega arith }, below_open xs)
 

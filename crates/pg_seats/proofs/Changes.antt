@@ -69,7 +69,7 @@ put_here f t n u e = rw (eq-eqb u t e) refl
 pub put_else : (f : ℕ → ℕ) (t n u : ℕ) → u ≢ t → put_at f t n u ≡ f u
 put_else f t n u ne = rw (ne_eqb u t ne) refl
 
-in_list : {A : Type 0} (l : List A) (i : ℕ) (a b : A) → get_elem? l i ≡ some a → get_elem? (set l i b) i ≡ some b
+pub in_list : {A : Type 0} (l : List A) (i : ℕ) (a b : A) → get_elem? l i ≡ some a → get_elem? (set l i b) i ≡ some b
 in_list [] i a b e = absurd (some-ne-none a (sym e))
 in_list (x ∷ xs) zero a b e = refl
 in_list (x ∷ xs) (suc i) a b e = in_list xs i a b e

@@ -1,9 +1,10 @@
 -- The parts of the turn that is due, laid over what the steps that are done leave.
-use Rattle.std.proofs.Common.{◌≡◌, ◌≢◌, ℕ, zero, suc, ◌+◌, ◌<◌, ◌≤◌, ◌⊎◌, inl, inr, ◌==◌, ◌&&◌, Bool, true, false, List, Option, Some, None, refl, sym, ap, ◌∙◌, subst, arith}
+use Rattle.std.proofs.Common.{◌≡◌, ◌≢◌, ℕ, zero, suc, ◌+◌, ◌-◌, ◌<◌, ◌≤◌, ◌⊎◌, inl, inr, ◌==◌, ◌&&◌, Bool, true, false, List, Option, Some, None, refl, sym, ap, ◌∙◌, subst, arith}
 use Rattle.std.specs.Prelude.{nat_lt, is_some, slice_get, if◌then◌else◌}
 use Rattle.std.proofs.lemmas.Bool.{cases_lt, cases_eq, cases_Bool, eqb-true, eq-eqb, ne_eqb, lt-ltb, le-ltb, and_parts}
 use Rattle.std.proofs.lemmas.Bool.Decides.{nat_tests}
 use Rattle.pg_num.specs.declared.layout.TheConstants.{MEMORY_BYTES}
+use Rattle.pg_run_memory.specs.Bytes.{byte_of}
 use Rattle.pg_law_threads.specs.Effects.{deeds, or_old}
 use Rattle.pg_law_threads.specs.Intervals.{Timed}
 use Rattle.pg_run_trace.specs.declared.step.Access.{Access}
@@ -84,7 +85,9 @@ writes_some (Some a) b h = go a.writes refl
   where
     go : (w : Bool) → a.writes ≡ w → a.writes ≡ true
     go true e = e
-    go false e = absurd (let k : is_some (if false && is_in (range_of a) b then Some 0 else None) ≡ true = rw (← e) h in cc)
+    go false e =
+        let z : written_by (Some a) b ≡ None = ap (λ w. if w && is_in (range_of a) b then Some (byte_of a.number (b - (range_of a).start)) else None) e in
+        absurd (let k : false ≡ true = sym (ap is_some z) ∙ h in cc)
 
 pub over_all : (x : Timed Did) → IsShaped x.did → (b v : ℕ) → over (Some x) (needs x.did) b v ≡ or_old (x.did.writes b) v
 over_all x h b v = go (x.did.writes b) refl (cases_lt b MEMORY_BYTES)
@@ -96,4 +99,4 @@ over_all x h b v = go (x.did.writes b) refl (cases_lt b MEMORY_BYTES)
         rw (e, lt-ltb b MEMORY_BYTES l, s) (ap (λ c. if c then n else v) (lt-ltb (bit (has_word x.did)) (bit (has_word x.did) + 1) (omega arith)))
     go (Some n) e (inr l) =
         let s : has_word x.did ≡ true = h.has_word b l (ap is_some e) in
-        rw (e, le-ltb b MEMORY_BYTES l, s) refl
+        rw (e, le-ltb b MEMORY_BYTES l, s) (ap (λ c. if c then n else v) (lt-ltb 0 (1 + bit (has_store x.did)) (omega arith)))

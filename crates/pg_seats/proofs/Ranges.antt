@@ -86,7 +86,10 @@ write_at r None e = absurd cc
 write_at r (Some a) e = let b = and_parts a.writes (is_range r a) e in record { access = a; is = refl; kind = b.0; range = range_is r a b.1 }
 
 pub one_range : (r q : ByteRange) (b c : Bool) (o : Option Access) → At r b o → At q c o → r ≡ q
-one_range r q b c o h k = sym h.range ∙ ap range_of (let e : Some h.access ≡ Some k.access = sym h.is ∙ k.is in cc) ∙ k.range
+one_range r q b c o h k =
+    let e : h.access ≡ k.access = (let z : Some h.access ≡ Some k.access = sym h.is ∙ k.is in cc) in
+    let f : range_of h.access ≡ range_of k.access = ap (λ (a : Access). range_of a) e in
+    sym h.range ∙ f ∙ k.range
 
 -- a byte of the range
 in_range : (r : ByteRange) (k : ℕ) → k < r.bytes → is_in r (r.start + k) ≡ true

@@ -1,7 +1,7 @@
 -- Stores keep the rule: plain ones, and the stores of turns that are due; of a granule whole, and of a part of it.
 use Rattle.std.proofs.Common.{◌≡◌, ◌≢◌, ℕ, zero, suc, ◌+◌, ◌-◌, ◌*◌, ◌/◌, ◌%◌, ◌^◌, ◌<◌, ◌≤◌, ◌⊎◌, inl, inr, ◌==◌, ◌&&◌, not, Bool, true, false, length, Option, Some, None, List, set, refl, sym, ap, ◌∙◌, subst, arith, length-set}
 use Rattle.std.specs.Prelude.{slice_get, slice_index, is_some, nat_lt, nat_le, if◌then◌else◌}
-use Rattle.std.proofs.lemmas.Bool.{cases_lt, cases_eq, and_parts, eqb-true, eq-eqb, ne_eqb, lt-ltb, le-ltb, false_from_ne_true}
+use Rattle.std.proofs.lemmas.Bool.{cases_lt, cases_eq, and_parts, eqb-true, eq-eqb, ne_eqb, lt-ltb, le-leb, le-ltb, false_from_ne_true}
 use mathlib.Core.Option.{some}
 use lib.ListN.{get_elem?}
 use Rattle.atomic_table.specs.Table.{State, Me, keeps}
@@ -45,7 +45,8 @@ IsStored words r n word = (k : ℕ) → k < 8 → byte_of word k ≡ with_bytes 
 whole_stored : (words : List ℕ) (r : ByteRange) (n : ℕ) → IsPlace r → r.bytes ≡ 8 → IsStored words r n n
 whole_stored words r n place eight k l =
     let a : r.start % 8 ≡ 0 = ap (λ b. r.start % b) (sym eight) ∙ place.aligned in
-    rw (a, eight, lt-ltb k 8 l) refl
+    let z : k ≡ k - 0 = omega arith in
+    rw (a, eight, le-leb 0 k (omega arith), lt-ltb k 8 l) (ap (byte_of n) z)
 
 -- a part of it, by a change of its word
 part_stored : (words : List ℕ) (r : ByteRange) (found n : ℕ) (change : Delta) → Changes r (number_at r found) n change → slice_index words (granule_word r) < 2 ^ 64

@@ -138,7 +138,9 @@ advances id (Worker w, l) e = λ s holds len at small.
     let o = owner_is w.run w.thread w.done h.turns h.run_is (due_next w h.turns due) in
     let few = runs.few w.run h.run_is in
     let n : slice_index s.words TURN_WORD ≡ h.turns = h.clock in
-    let now : suc h.turns ≡ (slice_index s.words TURN_WORD + 1) % 2 ^ 64 = sym (mod-eq_of_lt (let i = o.1 in omega (arith, few, n, i))) ∙ (omega (arith, n)) in
+    let small : suc h.turns < 2 ^ 64 = (let i = o.1 in omega (arith, few, i)) in
+    let one : suc h.turns ≡ slice_index s.words TURN_WORD + 1 = omega (arith, n) in
+    let now : suc h.turns ≡ (slice_index s.words TURN_WORD + 1) % 2 ^ 64 = sym (mod-eq_of_lt {n = suc h.turns} {m = 2 ^ 64} small) ∙ ap (λ j. j % 2 ^ 64) one in
     let c = closed s.words s.views id w h at b.0 m.step m.next (eqb-true w.parts (needs m.step.did) m.fits) in (
       advanced (Worker w) (slice_index s.words TURN_WORD),
       keeps,

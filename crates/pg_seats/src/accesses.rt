@@ -33,7 +33,7 @@ pub fn load_due(words: &RunWords, seat: &mut Place, at: Range) -> u64
 }
 
 /// The next shared step of the thread, a plain store.
-#[tactic(auto, using(crate::proofs::Stores::stores, crate::proofs::Stores::store_parts))]
+#[tactic(auto, using(crate::proofs::Stores::stores))]
 pub fn store(words: &RunWords, seat: &mut Place, at: Range, number: u64)
     requires own { seat.old.table_id ≡ words.now.table.shared.table_id }
     requires small { number < 2 ^ (8 * at.bytes) }
@@ -50,7 +50,7 @@ pub fn store(words: &RunWords, seat: &mut Place, at: Range, number: u64)
 }
 
 /// The store of the turn that is due, behind the word that the turn leaves.
-#[tactic(auto, using(crate::proofs::Stores::puts, crate::proofs::Stores::put_parts))]
+#[tactic(auto, using(crate::proofs::Stores::puts))]
 pub fn store_due(words: &RunWords, seat: &mut Place, at: Range, number: u64)
     requires own { seat.old.table_id ≡ words.now.table.shared.table_id }
     requires small { number < 2 ^ (8 * at.bytes) }

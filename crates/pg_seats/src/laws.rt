@@ -17,7 +17,6 @@ ghost use Rattle.pg_seats.specs.declared.run.View.TheVariants.{Worker};
 
 /// A seat whose next shared step is plain, or is due, finds in each cell that this step reads or writes what the full guided run has
 /// there before it, as long as no part of its own that is done wrote the cell.
-#[tactic(auto, using(crate::proofs::SeatLaws::seat_finds))]
 pub fn a_seat_finds_what_the_run_has()
     ensures { (run : Run) (words : List ℕ) (views : List View) (id : ℕ) (w : Standing) (x : Timed Did) (b : ℕ) → Keeps run words views → get_elem? views id ≡ some (Worker w)
         → next_of w ≡ Some x → (deeds.is_event x.did ≡ true → w.due ≡ true) → IsCell b → touches deeds x.did b ≡ true → is_put x.did w.parts b ≡ false
@@ -25,7 +24,6 @@ pub fn a_seat_finds_what_the_run_has()
 {}
 
 /// Two seats are never due at once.
-#[tactic(auto, using(crate::proofs::SeatLaws::one_seat_is_due))]
 pub fn one_seat_is_due()
     ensures { (run : Run) (words : List ℕ) (views : List View) (i j : ℕ) (w u : Standing) → Keeps run words views → get_elem? views i ≡ some (Worker w) → get_elem? views j ≡ some (Worker u)
         → w.due ≡ true → u.due ≡ true → i ≡ j }

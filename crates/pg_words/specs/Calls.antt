@@ -1,5 +1,5 @@
 -- What a call on the shared words asks of their rule: that its atomic step keeps the rule, whatever the words are when it comes.
-use Rattle.std.specs.Prelude.{◌≡◌, ℕ, ◌+◌, ◌-◌, ◌*◌, ◌/◌, ◌%◌, ◌^◌, ◌<◌}
+use Rattle.std.specs.Prelude.{◌≡◌, ℕ, ◌+◌, ◌/◌, ◌%◌, ◌^◌, ◌<◌}
 use mathlib.Core.Option.{none}
 use Rattle.atomic_table.specs.Table.{State, Me, Step, step, Allows}
 use Rattle.pg_num.specs.Places.{ByteRange}
