@@ -30,8 +30,9 @@ class Size:
     proofs: int
 
     def seconds(self):
-        """Returns about how long one processor proves it: laws, which have no code, cost next to nothing."""
-        return 10 + 0.14 * self.code
+        """Returns about how long one processor proves it, by what all crates took beside other work: laws, which have no
+        code, cost next to nothing."""
+        return 10 + 0.12 * self.code
 
 
 @dataclasses.dataclass
@@ -96,8 +97,8 @@ class Build:
         return max(1, round(max([shared, *[self.ahead[it] for it in self.left]]) / 60))
 
     def memory_of(self, crate, jobs):
-        """Returns about the most bytes that a check of a crate takes. Forty crates of up to 2,400 lines of code took 0.7
-        to 2.3 GB; this is as much for the dearest, and up to three times as much for laws."""
+        """Returns about the most bytes that a check of a crate takes. Crates of up to 2,400 lines of code took 0.7 to 2.4 GB;
+        this is as much for the dearest, and up to three times as much for laws."""
         below = sum(self.sizes[it].code for it in self.tree.below(crate))
         size = self.sizes[crate]
         one = 900_000_000 + 500_000 * size.code + 120_000 * size.proofs + 20_000 * below
