@@ -1,6 +1,6 @@
 """Proves the crates that the program is made of, each once and over the libraries that stand, and links the program.
 
-What is proved stays in crates/NAME/out, as `kept.py` says. A later run proves only what isn't there yet, or what changed.
+What is proved stays in crates/NAME/out, as `kept.py` says. A later run proves only what isn't there yet or what changed.
 Libraries are built with their statements alone: they are small, and so is what a check over them takes of memory.
 """
 
@@ -30,8 +30,8 @@ class Size:
     proofs: int
 
     def seconds(self):
-        """Returns about how long one processor proves it, by what all crates took beside other work: laws, which have no
-        code, cost next to nothing."""
+        """Returns about how many seconds one processor proves it, as seen beside other work. Laws, which have no code,
+        cost next to nothing."""
         return 10 + 0.12 * self.code
 
 
@@ -97,8 +97,8 @@ class Build:
         return max(1, round(max([shared, *[self.ahead[it] for it in self.left]]) / 60))
 
     def memory_of(self, crate, jobs):
-        """Returns about the most bytes that a check of a crate takes. Crates of up to 2,400 lines of code took 0.7 to 2.4 GB;
-        this is as much for the dearest, and up to three times as much for laws."""
+        """Returns about the most bytes that a check of a crate takes. Crates of up to 2,400 lines of code took 0.7 to
+        2.4 GB; this is as much for the dearest, and up to three times as much for laws."""
         below = sum(self.sizes[it].code for it in self.tree.below(crate))
         size = self.sizes[crate]
         one = 900_000_000 + 500_000 * size.code + 120_000 * size.proofs + 20_000 * below

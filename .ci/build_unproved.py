@@ -77,8 +77,8 @@ def write_command(path, text):
 
 
 def toolchain_without_compiler(kit, room):
-    """Makes a toolchain of links in which something else stands for the compiler, and nothing for the prover: a trial run
-    asks that only whether a check would refuse a name, which takes a processor as long as all else."""
+    """Makes a toolchain of links in which something else stands for the compiler, and nothing for the prover: a trial
+    run asks that only whether a check would refuse a name, which takes a processor as long as all else."""
     to = copy_of_toolchain(kit, f"{room}/kit")
     os.remove(f"{to}/toolchain")
     links_to(f"{kit}/toolchain", f"{to}/toolchain", ["bin"])
@@ -90,8 +90,8 @@ def toolchain_without_compiler(kit, room):
 
 
 def run_and_tell(commands, what, room, **more):
-    """Runs commands side by side, says each half minute what it is at, and returns the most of their exit statuses. What
-    they say stands in the room. An end of this one ends them."""
+    """Runs commands side by side, says each half minute what it is at, and returns the most of their exit statuses.
+    What they say stands in the room. An end of this one ends them."""
     told, running = time.monotonic(), []
     with open(f"{room}/said", "w", encoding="utf-8") as said:
         how = {"stdin": subprocess.DEVNULL, "stdout": said, "stderr": said, "start_new_session": True, **more}
@@ -144,9 +144,10 @@ def compile_program(tree, room):
     """Compiles the program into the room: the parts of its module side by side, which are then linked."""
     kit, words = tree.kit, make_module(tree, room)
     parts = read_module(kit, room, words).parts(min(8, processors()))
-    for number, text in enumerate(parts):
-        write(f"{room}/part{number}.ll", text)
-    compiler, files = [f"{kit}/toolchain/bin/clang", *words, "-O1", "-c"], [f"{room}/part{it}" for it in range(len(parts))]
+    files = [f"{room}/part{number}" for number in range(len(parts))]
+    for file, text in zip(files, parts):
+        write(f"{file}.ll", text)
+    compiler = [f"{kit}/toolchain/bin/clang", *words, "-O1", "-c"]
     compiling = [[*compiler, f"{it}.ll", "-o", f"{it}.o"] for it in files]
     linking = [f"{kit}/bin/rattle-link", "--target", "x86_64-unknown-linux-gnu", "--toolchain", f"{kit}/toolchain"]
     linking += ["-o", f"{room}/{PROGRAM}", *[f"{it}.o" for it in files]]

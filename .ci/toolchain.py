@@ -67,6 +67,7 @@ class Tree:
         self.known = {}
 
     def at(self, crate):
+        """Returns a crate's folder."""
         return f"{self.folder}/crates/{crate}"
 
     def named(self, crate):
@@ -83,9 +84,11 @@ class Tree:
         return self.known[crate]
 
     def library(self, crate):
+        """Returns where a crate's library stands."""
         return f"{self.at(crate)}/out/rlib/{crate}.rlib"
 
     def root_file(self, crate):
+        """Returns the file with which a crate's code begins."""
         return "src/main.rt" if os.path.isfile(f"{self.at(crate)}/src/main.rt") else "src/lib.rt"
 
     def words(self, crate):
