@@ -17,6 +17,7 @@ use Rattle.pg_session_trial.specs.declared.line.TheConstants.{TRIAL_LINES}
 use Rattle.pg_session.specs.Lines.{ended_behind, number_of}
 use Rattle.pg_session.specs.Sessions.{Answer, Answers, AnswersAll, AnswersLine, Runs, begin}
 use Rattle.pg_session.specs.Trials.{IsTrialText, counts_text, is_recorded, is_refused, is_reused, numbers_printed, sum_from, turns_of}
+use Rattle.pg_session.specs.Counts.{AreCounted, Counts, TrialCounted}
 use Rattle.pg_session.specs.Progress.{Stands}
 use Rattle.pg_session.proofs.KeptEntries.{grows_line, stands_begin, stands_line}
 use Rattle.pg_session.proofs.LineNumbers.{range_more, range_none}
@@ -172,9 +173,9 @@ module _ {M : Type 0} (admits : M → List ℤ → Bool) (runs : Runs M) (number
     stands = stands_line admits runs kept next (Some (trial_line number i)) a h t.stands;
   }
 
-  pub tallied_all : (i : ℕ) (kept : Kept M) (recorded reused refused turns sum : ℕ) (text : List ℕ) → i ≡ TRIAL_LINES → Tallied admits runs number i kept recorded reused refused turns sum
+  told_by : (i : ℕ) (kept : Kept M) (recorded reused refused turns sum : ℕ) (text : List ℕ) → i ≡ TRIAL_LINES → Tallied admits runs number i kept recorded reused refused turns sum
       → text ≡ counts_text number recorded reused refused turns sum → IsTrialText admits runs number text
-  tallied_all i kept recorded reused refused turns sum text e t is = record {
+  told_by i kept recorded reused refused turns sum text e t is = record {
     answers = t.answers;
     kept = kept;
     session = subst (λ n. AnswersAll admits runs begin (map Some (lines_from number 0 n)) t.answers kept) e t.session;
@@ -186,6 +187,12 @@ module _ {M : Type 0} (admits : M → List ℤ → Bool) (runs : Runs M) (number
         ∙ ap (λ n. counts_text number (count_by (λ (a : Answer). is_recorded a.kind) t.answers) (count_by (λ (a : Answer). is_reused a.kind) t.answers)
         (count_by (λ (a : Answer). is_refused a.kind) t.answers) (sum_by (λ (a : Answer). turns_of a.end) t.answers) n) t.sum_is;
   }
+
+  pub tallied_all : (i : ℕ) (kept : Kept M) (recorded reused refused turns sum : ℕ) (text : List ℕ) (before after : Counts) → i ≡ TRIAL_LINES
+      → (t : Tallied admits runs number i kept recorded reused refused turns sum) → AreCounted t.answers before after → text ≡ counts_text number recorded reused refused turns sum
+      → TrialCounted admits runs number before after text
+  tallied_all i kept recorded reused refused turns sum text before after e t n is =
+      record { tells = told_by i kept recorded reused refused turns sum text e t is; counted = n }
 
 -- ---- the lines of a trial's text
 

@@ -13,7 +13,7 @@ returns-in-Ok-clause-ends g c =
     let loaded = rw c.as_str.ensures.value at (rw c.in-Ok-Accepted.field-0-is at c.in-Ok-Accepted.ensures.loaded) in
     of_runner _ _ _ _ c.in-Ok-Accepted.program _ _ c.new-runner.ensures.quantum c.new-runner.ensures.program (loaded.0, loaded.1, loaded.2.0)
     (λ program. serve_done _ _ _ _ program (λ name. stayed _ _ _ (λ e. cc) (c.in-Ok-Accepted.ensures.counts name)) (stayed _ _ _ (λ e. cc) c.in-Ok.ensures.read_count)
-    (stayed _ _ _ (λ e. cc) c.in-Ok.ensures.write_count) c.in-Ok.ensures.takes c.in-Ok.ensures.done)
+    (stayed _ _ _ (λ e. cc) c.in-Ok.ensures.write_count) c.in-Ok.ensures.takes (let d = c.in-Ok.ensures.done in (d.0, d.1, d.2.all)))
 
 pub returns-clause-ends : goal.returns-clause-ends
 returns-clause-ends g c =
