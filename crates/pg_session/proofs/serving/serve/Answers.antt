@@ -1,6 +1,6 @@
 use Rattle.std.proofs.Common.{◌∙◌, ap, arith, refl, sym, inl, inr}
-use Rattle.pg_session.proofs.WrittenSessions.{few_all, no_line, served, served_cut, served_last, some_line, stands_after_all, served_none}
-use Rattle.pg_session.proofs.SessionEnds.{no_limit, no_read, of_write, rose_from, same_count, same_fault, write_count, takes_none}
+use Rattle.pg_session.proofs.WrittenSessions.{few_all, no_line, served, served_cut, served_last, some_line, stands_after_all}
+use Rattle.pg_session.proofs.SessionEnds.{no_limit, no_read, of_write, rose_from, same_count, same_fault, write_count}
 use Rattle.pg_session.proofs.TakenBytes.{not-fault}
 use Rattle.pg_session.proofs.serving.serve.Goals as goal
 
