@@ -1,5 +1,5 @@
 -- A session, step by step.
-use Rattle.std.proofs.Common.{◌≡◌, Result, Ok, Err, OnErr, ℕ, ℤ, zero, suc, ◌+◌, ◌<◌, ◌≤◌, Bool, true, false, cond, List, [], ◌∷◌, ◌++◌, length, take, map}
+use Rattle.std.proofs.Common.{◌≡◌, Result, Ok, Err, OnErr, ℕ, ℤ, zero, suc, ◌+◌, ◌-◌, ◌^◌, ◌<◌, ◌≤◌, ◌⊎◌, inl, inr, Bool, true, false, cond, List, [], ◌∷◌, ◌++◌, length, take, map}
 use Rattle.std.proofs.Common.{refl, sym, ap, ◌∙◌, subst, arith, Option, Some, None, length-append, append-nil}
 use Rattle.std.specs.Prelude.{◌==◌, flat_map, nat_le}
 use Rattle.std.specs.Io.KnownBytes.{Appends}
@@ -7,6 +7,7 @@ use Rattle.std.proofs.Math.Seq.{take-append-add, take-append_seam}
 use Rattle.std.proofs.lemmas.Bool.{leb-true, leb-false}
 use Rattle.std.proofs.lemmas.Grind.{flat_map-append}
 use Rattle.std.proofs.lemmas.List.{map-append, take-append-le}
+use Rattle.std.proofs.lemmas.List.Sums.{sum_by-append}
 use Rattle.pg_io.specs.Streams.{AppendsFront}
 use Rattle.pg_io.proofs.Known.{appends-append}
 use Rattle.pg_cache.specs.Kept.{Kept}
@@ -34,7 +35,7 @@ rose_then i j a b c h g = record { stays = omega (arith, h.stays, g.stays); rose
     go (inl k) (inl m) = inl (omega (arith, k, m))
     go (inr k) (inl m) = inr (omega (arith, k, g.stays))
 
-counted_none : (counts : Counts) → AreCounted [] counts counts
+pub counted_none : (counts : Counts) → AreCounted [] counts counts
 counted_none counts = record { turns_rose = rose_none counts.turns; recordings_rose = rose_none counts.recordings }
 
 -- what is counted of answers, and then of others

@@ -189,6 +189,7 @@ module _ {M : Type 0} (admits : M → List ℤ → Bool) (runs : Runs M) (first 
 
   -- no line has begun
   pub served : (left : Option (List ℕ)) (kept : Kept M) (line : List ℕ) → line ≡ [] → HasAll admits runs first left before after kept line → HasBytes left (ServesCounted admits runs first before after)
+  unfolding serves
   served left kept line e h = (
     h.bytes,
     h.whole,
@@ -239,6 +240,7 @@ module _ {M : Type 0} (admits : M → List ℤ → Bool) (runs : Runs M) (first 
   -- the end of the input ends the line that has begun
   pub served_last : (others : Runs M) (left : Option (List ℕ)) (before mid after : Told) (kept next : Kept M) (line : List ℕ) → others ≡ runs → (line ≡ [] → ⊥)
       → HasAll admits runs first left before mid kept line → Answered admits others kept (input_of line ∷ []) next mid after → HasBytes left (ServesCounted admits runs first before after)
+  unfolding serves
   served_last others left before mid after kept next line same some h g =
       let both : Answered admits runs first (inputs_after [] h.bytes ++ input_of line ∷ []) next before after =
       answered_then admits runs first kept next _ _ before mid after h.answered (subst (λ r. Answered admits r kept (input_of line ∷ []) next mid after) same g) in (
