@@ -108,46 +108,63 @@ found-apart word words is f = record {
   few = one-value f.0 (quanta_of f.4.line) f.4.few;
 }
 
-found : (seen : Seen) (words : List Word) → is_line_from seen words ≡ true → FoundFrom seen words
-found Nothing [] e = found-none once_at_most (omega arith)
-found Value [] e = found-none never refl
-found OptionWord [] e = absurd cc
-found Nothing (word ∷ words) e = by-end (bytes_eq word (codes "--")) refl e
+false≢true : false ≡ true → ⊥
+false≢true e = cc
+
+-- one word more, behind which the words are found
+found-first : (word : Word) (words : List Word) → (is_line_from Nothing words ≡ true → Found once_at_most words) → (is_line_from Value words ≡ true → Found never words)
+    → (is_line_from OptionWord words ≡ true → FoundFrom OptionWord words) → is_line_from Nothing (word ∷ words) ≡ true → Found once_at_most (word ∷ words)
+found-first word words names rest value e = by-end (bytes_eq word (codes "--")) refl e
   where
     by-word : (b : Bool) → bytes_eq word (codes "--quantum") ≡ b → goes_on (λ next. is_line_from next words) (cond b (Some OptionWord) None) ≡ true → Found once_at_most (word ∷ words)
-    by-word true h e = found-apart word words ((bytes_eq-Decides word (codes "--quantum")).0 h) (found OptionWord words e)
-    by-word false h e = absurd cc
+    by-word true h e = found-apart word words ((bytes_eq-Decides word (codes "--quantum")).0 h) (value e)
+    by-word false h e = absurd (false≢true e)
 
     by-joined : (b : Bool) → is_joined word ≡ b
         → goes_on (λ next. is_line_from next words) (cond b (Some Value) (cond (bytes_eq word (codes "--quantum")) (Some OptionWord) None)) ≡ true → Found once_at_most (word ∷ words)
-    by-joined true h e = found-joined word words h (found Value words e)
+    by-joined true h e = found-joined word words h (rest e)
     by-joined false h e = by-word (bytes_eq word (codes "--quantum")) refl e
 
     by-name : (b : Bool) → is_name word ≡ b
         → goes_on (λ next. is_line_from next words)
         (cond b (Some Nothing) (cond (is_joined word) (Some Value) (cond (bytes_eq word (codes "--quantum")) (Some OptionWord) None))) ≡ true
         → Found once_at_most (word ∷ words)
-    by-name true h e = found-name once_at_most word words h (found Nothing words e)
+    by-name true h e = found-name once_at_most word words h (names e)
     by-name false h e = by-joined (is_joined word) refl e
 
-    by-end : (b : Bool) → bytes_eq word (codes "--") ≡ b → cond b true (goes_on (λ next. is_line_from next words) (seen_first word)) ≡ true → Found once_at_most (word ∷ words)
+    by-end : (b : Bool) → bytes_eq word (codes "--") ≡ b
+        → cond b true (goes_on (λ next. is_line_from next words)
+        (cond (is_name word) (Some Nothing) (cond (is_joined word) (Some Value) (cond (bytes_eq word (codes "--quantum")) (Some OptionWord) None)))) ≡ true
+        → Found once_at_most (word ∷ words)
     by-end true h e = found-end once_at_most word words (omega arith) h
     by-end false h e = by-name (is_name word) refl e
-found Value (word ∷ words) e = by-end (bytes_eq word (codes "--")) refl e
+
+found-later : (word : Word) (words : List Word) → (is_line_from Value words ≡ true → Found never words) → is_line_from Value (word ∷ words) ≡ true → Found never (word ∷ words)
+found-later word words names e = by-end (bytes_eq word (codes "--")) refl e
   where
     by-name : (b : Bool) → is_name word ≡ b → goes_on (λ next. is_line_from next words) (cond b (Some Value) None) ≡ true → Found never (word ∷ words)
-    by-name true h e = found-name never word words h (found Value words e)
-    by-name false h e = absurd cc
+    by-name true h e = found-name never word words h (names e)
+    by-name false h e = absurd (false≢true e)
 
     by-end : (b : Bool) → bytes_eq word (codes "--") ≡ b → cond b true (goes_on (λ next. is_line_from next words) (cond (is_name word) (Some Value) None)) ≡ true
         → Found never (word ∷ words)
     by-end true h e = found-end never word words refl h
     by-end false h e = by-name (is_name word) refl e
-found OptionWord (word ∷ words) e = by (begins_with_hyphen word) refl e
+
+found-value : (word : Word) (words : List Word) → (is_line_from Value words ≡ true → Found never words) → is_line_from OptionWord (word ∷ words) ≡ true → FoundFrom OptionWord (word ∷ words)
+found-value word words rest e = by (begins_with_hyphen word) refl e
   where
     by : (b : Bool) → begins_with_hyphen word ≡ b → goes_on (λ next. is_line_from next words) (cond b None (Some Value)) ≡ true → FoundFrom OptionWord (word ∷ words)
-    by true h e = absurd cc
-    by false h e = (word, words, refl, h, found Value words e)
+    by true h e = absurd (false≢true e)
+    by false h e = (word, words, refl, h, rest e)
+
+found : (seen : Seen) (words : List Word) → is_line_from seen words ≡ true → FoundFrom seen words
+found Nothing [] e = found-none once_at_most (omega arith)
+found Value [] e = found-none never refl
+found OptionWord [] e = absurd (false≢true e)
+found Nothing (word ∷ words) e = found-first word words (found Nothing words) (found Value words) (found OptionWord words) e
+found Value (word ∷ words) e = found-later word words (found Value words) e
+found OptionWord (word ∷ words) e = found-value word words (found Value words) e
 
 pub line-found : (words : List Word) → is_line words ≡ true → IsLine words
 line-found words e =
@@ -161,7 +178,7 @@ name-no-end word e = by (bytes_eq word (codes "--")) refl
   where
     by : (b : Bool) → bytes_eq word (codes "--") ≡ b → b ≡ false
     by false h = refl
-    by true h = let n = subst (λ w. is_name w ≡ true) ((bytes_eq-Decides word (codes "--")).0 h) e in absurd cc
+    by true h = absurd (false≢true (subst (λ w. is_name w ≡ true) ((bytes_eq-Decides word (codes "--")).0 h) e))
 
 not-true : (b : Bool) → not b ≡ true → b ≡ false
 not-true true e = sym e
@@ -176,7 +193,10 @@ passes-value [] None plain none = refl
 passes-value [] (Some words) plain none = refl
 passes-value (positional word ∷ pieces) end plain none =
     let name = and-left (is_name word) (list_all is_plain pieces) plain in
-    rw (name-no-end word name, name) (passes-value pieces end (and-right (is_name word) (list_all is_plain pieces) plain) none)
+    let rest = flat_map words_of_piece pieces ++ words_of_end end in
+    ap (λ b. cond b true (goes_on (λ next. is_line_from next rest) (cond (is_name word) (Some Value) None))) (name-no-end word name)
+    ∙ ap (λ b. goes_on (λ next. is_line_from next rest) (cond b (Some Value) None)) name
+    ∙ passes-value pieces end (and-right (is_name word) (list_all is_plain pieces) plain) none
 passes-value (quantum_apart value ∷ pieces) end plain none = absurd (is-none value (quanta pieces) none)
 passes-value (quantum_joined value ∷ pieces) end plain none = absurd (is-none value (quanta pieces) none)
 
@@ -185,10 +205,15 @@ passes-nothing [] None plain followed few = refl
 passes-nothing [] (Some words) plain followed few = refl
 passes-nothing (positional word ∷ pieces) end plain followed few =
     let name = and-left (is_name word) (list_all is_plain pieces) plain in
-    rw (name-no-end word name, name) (passes-nothing pieces end (and-right (is_name word) (list_all is_plain pieces) plain) followed few)
+    let rest = flat_map words_of_piece pieces ++ words_of_end end in
+    ap (λ b. cond b true (goes_on (λ next. is_line_from next rest) (seen_first word))) (name-no-end word name)
+    ∙ ap (λ b. goes_on (λ next. is_line_from next rest) (cond b (Some Nothing) (cond (is_joined word) (Some Value) (cond (bytes_eq word (codes "--quantum")) (Some OptionWord) None)))) name
+    ∙ passes-nothing pieces end (and-right (is_name word) (list_all is_plain pieces) plain) followed few
 passes-nothing (quantum_apart value ∷ pieces) end plain followed few =
-    rw (not-true (begins_with_hyphen value) (and-left (not (begins_with_hyphen value)) (list_all is_followed pieces) followed))
-    (passes-value pieces end plain (no-more value (quanta pieces) few))
+    let rest = flat_map words_of_piece pieces ++ words_of_end end in
+    ap (λ b. goes_on (λ next. is_line_from next rest) (cond b None (Some Value)))
+    (not-true (begins_with_hyphen value) (and-left (not (begins_with_hyphen value)) (list_all is_followed pieces) followed))
+    ∙ passes-value pieces end plain (no-more value (quanta pieces) few)
 passes-nothing (quantum_joined value ∷ pieces) end plain followed few = passes-value pieces end plain (no-more value (quanta pieces) few)
 
 pub line-passes : (line : Line) → list_all is_plain line.pieces ≡ true → list_all is_followed line.pieces ≡ true → length (quanta_of line) ≤ 1 → is_line (words_of line) ≡ true
