@@ -6,7 +6,7 @@ use Rattle.pg_ir.specs.Program.{NumberedProgram}
 use Rattle.pg_num.specs.declared.limits.TheConstants.{SESSION_INPUT_LIMIT}
 use Rattle.pg_io.specs.Faults.{Rose}
 use Rattle.pg_io.specs.Streams.{AppendsFront, TakesAtMost}
-use Rattle.pg_commands_words.specs.Once.{Word}
+use Rattle.pg_commands_words.specs.Pieces.{Word}
 use Rattle.pg_commands_words.specs.Commands.{serve}
 use Rattle.pg_cache.specs.Kept.{Kept}
 use Rattle.pg_session_entry.specs.Entries.{EntryParts}
