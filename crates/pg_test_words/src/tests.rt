@@ -26,28 +26,28 @@ fn parts_stand_beside_one_another(rt: HostRuntime) -> Result<(), Fail> {
     let whole = Place::whole_granule(3);
     let part = middle(3)?;
     words.store::<Anything>(&mut seat, whole, 0x1122_3344_5566_7788);
-    assert_eq!(
+    assert_eq!(rt;
         words.load::<Anything>(&mut seat, whole),
         0x1122_3344_5566_7788
     );
     if part.bytes() == 2 {
         words.store_part::<Anything, Anything>(&mut seat, part, 0xabcd);
-        assert_eq!(words.load::<Anything>(&mut seat, part), 0xabcd);
-        assert_eq!(
+        assert_eq!(rt; words.load::<Anything>(&mut seat, part), 0xabcd);
+        assert_eq!(rt;
             words.load::<Anything>(&mut seat, whole),
             0x1122_3344_abcd_7788
         );
         words.store_part::<Anything, Anything>(&mut seat, part, 1);
-        assert_eq!(
+        assert_eq!(rt;
             words.load::<Anything>(&mut seat, whole),
             0x1122_3344_0001_7788
         );
     }
-    assert_eq!(
+    assert_eq!(rt;
         words.load::<Anything>(&mut seat, Place::whole_granule(2)),
         0
     );
-    assert_eq!(
+    assert_eq!(rt;
         words.load::<Anything>(&mut seat, Place::whole_granule(4)),
         0
     );
@@ -64,16 +64,16 @@ fn turns_threads_and_granules_stand_apart(rt: HostRuntime) -> Result<(), Fail> {
     words.put_exit::<Anything>(&mut seat, ThreadNo(63), 8);
     words.store::<Anything>(&mut seat, Place::whole_granule(0), 9);
     words.store::<Anything>(&mut seat, Place::whole_granule(0x3f_ffff), 10);
-    assert_eq!(words.turn::<Anything>(&mut seat), 2);
-    assert_eq!(words.peek(), 2);
-    assert_eq!(words.get_exit::<Anything>(&mut seat, ThreadNo(0)), 7);
-    assert_eq!(words.get_exit::<Anything>(&mut seat, ThreadNo(1)), 0);
-    assert_eq!(words.get_exit::<Anything>(&mut seat, ThreadNo(63)), 8);
-    assert_eq!(
+    assert_eq!(rt; words.turn::<Anything>(&mut seat), 2);
+    assert_eq!(rt; words.peek(), 2);
+    assert_eq!(rt; words.get_exit::<Anything>(&mut seat, ThreadNo(0)), 7);
+    assert_eq!(rt; words.get_exit::<Anything>(&mut seat, ThreadNo(1)), 0);
+    assert_eq!(rt; words.get_exit::<Anything>(&mut seat, ThreadNo(63)), 8);
+    assert_eq!(rt;
         words.load::<Anything>(&mut seat, Place::whole_granule(0)),
         9
     );
-    assert_eq!(
+    assert_eq!(rt;
         words.load::<Anything>(&mut seat, Place::whole_granule(0x3f_ffff)),
         10
     );
@@ -86,7 +86,7 @@ fn seats_are_split_and_joined(rt: HostRuntime) -> Result<(), Fail> {
     let (words, mut seat) = AnyWords::new(rt.alloc(), &())?;
     let mut other = words.split::<Anything>(&mut seat);
     words.store::<Anything>(&mut other, Place::whole_granule(1), 5);
-    assert_eq!(
+    assert_eq!(rt;
         words.load::<Anything>(&mut seat, Place::whole_granule(1)),
         5
     );
