@@ -1,7 +1,6 @@
 -- What is written is read again: the text of a value, and the value's entries.
-use Rattle.std.proofs.Common.{◌≡◌, ℕ, suc, ◌<◌, ◌≤◌, ◌^◌, max, ℤ, pos, negsuc, List, [], ◌∷◌, ◌++◌, length, Bool, true, false, Option, Some, None, option_and_then, IsUtf8, decimal, refl, sym, ap, ◌∙◌, subst, arith, append-nil}
+use Rattle.std.proofs.Common.{◌≡◌, ℕ, suc, ◌<◌, ◌≤◌, ◌^◌, ℤ, pos, negsuc, List, [], ◌∷◌, ◌++◌, length, Bool, true, false, Option, Some, option_and_then, IsUtf8, codes, refl, sym, ap, ◌∙◌, arith, append-nil}
 use Rattle.std.specs.List.{All, AllByRecursion}
-use Rattle.std.specs.Fmt.{signed_decimal}
 use Rattle.std.proofs.lemmas.Bool.{le-leb, lt-ltb}
 use Rattle.std.proofs.lemmas.Fmt.{IsAscii-decimal, IsAscii-signed}
 use Rattle.std.proofs.lemmas.List.Elements.{recursion_from_All}
@@ -15,15 +14,14 @@ use Rattle.json.specs.Tree.{HasNumbers, ItemsHaveNumbers, json_tokens}
 use Rattle.json.proofs.Printed.Trees.{ArePrintable-json_tokens, value-json_tokens}
 use Rattle.json.proofs.Printed.Decimals.{IsNumber-decimal, IsNumber-signed_decimal}
 use Rattle.json.proofs.Printed.Utf8.{are_ascii, IsUtf8-are_ascii, IsUtf8-quoted}
-use Rattle.serde_json.specs.Data.{Data, unsigned, negative, number, string, array, object, Items, no_items, item, no_members, member}
+use Rattle.serde_json.specs.Data.{Data, string, array, Items, no_items, item}
 use Rattle.serde_json.specs.Events.{items_len}
-use Rattle.serde_json.specs.Find.{of_integer}
 use Rattle.serde_json.specs.Read.{of_json, of_items, read, max_depth}
 use Rattle.serde_json.specs.Written.{outline, items_outline, comma_if, compact_text, items_text}
 use Rattle.serde_json.proofs.Numbers.{number_of-decimal, number_of-negative}
 use Rattle.serde_json.proofs.OnLiterals.{serde_json_on_literals}
 use Rattle.serde_json.proofs.Texts.{print-outline}
-use Rattle.pg_num.specs.declared.limits.TheConstants.{CACHE_LIMIT, NUMBERS_LIMIT, RECORDING_STEP_LIMIT, THREAD_LIMIT}
+use Rattle.pg_num.specs.declared.limits.TheConstants.{NUMBERS_LIMIT, RECORDING_STEP_LIMIT, THREAD_LIMIT}
 use Rattle.pg_ir.specs.declared.ids.InstrId.{InstrId}
 use Rattle.pg_run_trace.specs.declared.turn.Turn.{Turn}
 use Rattle.pg_run_trace.specs.declared.turn.TurnKind.{TurnKind}
@@ -31,13 +29,17 @@ use Rattle.pg_run_trace.specs.declared.turn.TurnKind.TheVariants as kinds
 use Rattle.pg_run_trace.specs.KindNames.{kind_named, kind_text}
 use Rattle.pg_book.specs.Parts.{BookEntryParts}
 use Rattle.pg_book.specs.Texts.{natural, integer, each, id_value, turn_value, entry_value, book_value, book_text}
-use Rattle.pg_book.specs.Values.{all_as, as_entry, as_gated, as_id, as_signed, as_turn, ascend_from, entries_in, few_as}
-use Rattle.pg_book.specs.Books.{AreWithin, HasEntries, IsBook, IsSigned, IsTurnWithin, IsWithin}
+use Rattle.pg_book.specs.Values.{all_as, as_entry, as_gated, as_id, as_signed, as_turn, ascend_from, few_as}
+use Rattle.pg_book.specs.Books.{AreWithin, IsBook, IsSigned, IsTurnWithin, IsWithin}
 use Rattle.pg_book.proofs.Lines.{tokens-line}
 
 each_of : {A : Type 0} (P Q : A → Type 0) → ((x : A) → P x → Q x) → (xs : List A) → AllByRecursion P xs → AllByRecursion Q xs
 each_of P Q f [] h = tt
 each_of P Q f (x ∷ xs) h = (f x h.0, each_of P Q f xs h.1)
+
+-- what follows of each
+all_are : {A : Type 0} (P Q : A → Type 0) → ((x : A) → P x → Q x) → (xs : List A) → All P xs → AllByRecursion Q xs
+all_are P Q f xs h = each_of P Q f xs (recursion_from_All P xs h)
 
 -- ---- texts
 
@@ -105,7 +107,7 @@ kind_ascii k = refl
 
 turn_read : (t : Turn) → IsTurnWithin t → Reads 1 (turn_value t)
 turn_read t h =
-    let a = h.thread in
+    let a : t.thread.0 < 64 = h.thread in
     let b = h.instr in
     let kind = string_read (kind_text t.kind) (IsUtf8-are_ascii _ (kind_ascii t.kind)) in
     array_read 0 _ (one_read 0 _ _ (natural_read t.thread.0 (omega (arith, a))) (one_read 0 _ _ (natural_read t.instr.0 (omega (arith, b)))
@@ -116,34 +118,34 @@ id_read id h = natural_read id.0 (omega (arith, h))
 
 -- a member's text: its key, and its value
 member_utf8 : (key : List ℕ) (text rest : List ℕ) → are_ascii (quoted key) ≡ true → IsUtf8 text → IsUtf8 rest → IsUtf8 (quoted key ++ 58 ∷ (text ++ rest))
-member_utf8 key text rest a t r = IsUtf8-append _ _ (IsUtf8-are_ascii _ a) (IsUtf8-append (58 ∷ []) _ (IsUtf8-are_ascii _ refl) (IsUtf8-append text rest t r))
+member_utf8 key text rest a t r = IsUtf8-append (quoted key) _ (IsUtf8-are_ascii (quoted key) a) (IsUtf8-append (58 ∷ []) _ (IsUtf8-are_ascii (58 ∷ []) refl) (IsUtf8-append text rest t r))
 
 entry_read : (e : BookEntryParts) → IsWithin e → Reads 3 (entry_value e)
 unfolding serde_json_on_literals
 entry_read e h =
-    let g = deeper 1 2 _ (omega arith) (array_read 0 _ (each_read 0 id_value e.gated (each_of _ _ id_read e.gated (recursion_from_All _ _ h.ids)))) in
-    let i = deeper 1 2 _ (omega arith) (array_read 0 _ (each_read 0 integer e.input (each_of _ _ integer_read e.input (recursion_from_All _ _ h.numbers)))) in
-    let t = array_read 1 _ (each_read 1 turn_value e.turns (each_of _ _ turn_read e.turns (recursion_from_All _ _ h.each_turn))) in
+    let g = deeper 1 2 _ (omega arith) (array_read 0 _ (each_read 0 id_value e.gated (all_are _ _ id_read e.gated h.ids))) in
+    let i = deeper 1 2 _ (omega arith) (array_read 0 _ (each_read 0 integer e.input (all_are _ _ integer_read e.input h.numbers))) in
+    let t = array_read 1 _ (each_read 1 turn_value e.turns (all_are _ _ turn_read e.turns h.each_turn)) in
     let comma = IsUtf8-are_ascii (44 ∷ []) refl in
     record {
       numbers = (g.numbers, (i.numbers, (t.numbers, tt)));
       back = rw (g.back, i.back, t.back) refl;
       shallow = let a = g.shallow in let b = i.shallow in let c = t.shallow in omega (arith, a, b, c);
-      utf8 = IsUtf8-append (123 ∷ []) _ (IsUtf8-are_ascii _ refl) (member_utf8 _ _ _ refl g.utf8 (IsUtf8-append _ _ comma (member_utf8 _ _ _ refl i.utf8
-        (IsUtf8-append _ _ comma (member_utf8 _ _ _ refl t.utf8 (IsUtf8-are_ascii (125 ∷ []) refl))))));
+      utf8 = IsUtf8-append (123 ∷ []) _ (IsUtf8-are_ascii _ refl) (member_utf8 (codes "gated") _ _ refl g.utf8 (IsUtf8-append _ _ comma (member_utf8 (codes "input") _ _ refl i.utf8
+          (IsUtf8-append _ _ comma (member_utf8 (codes "turns") _ _ refl t.utf8 (IsUtf8-are_ascii (125 ∷ []) refl))))));
     }
 
-book_read : (es : List BookEntryParts) → AllByRecursion IsWithin es → Reads 5 (book_value es)
+book_read : (es : List BookEntryParts) → All IsWithin es → Reads 5 (book_value es)
 unfolding serde_json_on_literals
 book_read es h =
-    let l = array_read 3 _ (each_read 3 entry_value es (each_of _ _ entry_read es h)) in
+    let l = array_read 3 _ (each_read 3 entry_value es (all_are _ _ entry_read es h)) in
     let one = natural_read 1 (omega arith) in
     let comma = IsUtf8-are_ascii (44 ∷ []) refl in
     record {
       numbers = (l.numbers, (one.numbers, tt));
       back = rw (l.back, one.back) refl;
       shallow = let a = l.shallow in omega (arith, a);
-      utf8 = IsUtf8-append (123 ∷ []) _ (IsUtf8-are_ascii _ refl) (member_utf8 _ _ _ refl l.utf8 (IsUtf8-append _ _ comma (member_utf8 _ _ _ refl one.utf8 (IsUtf8-are_ascii (125 ∷ []) refl))));
+      utf8 = IsUtf8-append (123 ∷ []) _ (IsUtf8-are_ascii _ refl) (member_utf8 (codes "entries") _ _ refl l.utf8 (IsUtf8-append _ _ comma (member_utf8 (codes "peregrine") _ _ refl one.utf8 (IsUtf8-are_ascii (125 ∷ []) refl))));
     }
 
 abbrev whole : Option (json.Json × List Token) → Option Data
@@ -182,21 +184,20 @@ module _ (kind_back : (k : TurnKind) → kind_named (kind_text k) ≡ Some k) wh
   turn_back t h = rw (lt-ltb t.thread.0 THREAD_LIMIT h.thread, lt-ltb t.instr.0 (2 ^ 32) h.instr, kind_back t.kind) refl
 
   gated_back : (ids : List InstrId) → ascend_from 0 ids ≡ true → All (λ (id : InstrId). id.0 < 2 ^ 32) ids → as_gated (each id_value ids) ≡ Some ids
-  gated_back ids a h = let all = each_back id_value as_id ids (each_of _ _ id_back ids (recursion_from_All _ _ h)) in rw (all, a) refl
+  gated_back ids a h = let all = each_back id_value as_id ids (all_are _ _ id_back ids h) in rw (all, a) refl
 
   entry_back : (e : BookEntryParts) → IsWithin e → as_entry (entry_value e) ≡ Some e
   unfolding serde_json_on_literals
   entry_back e h =
       let gated = gated_back e.gated h.gated h.ids in
-      let input = few_back integer as_signed NUMBERS_LIMIT e.input h.input (each_of _ _ signed_back e.input (recursion_from_All _ _ h.numbers)) in
-      let turns = few_back turn_value as_turn RECORDING_STEP_LIMIT e.turns h.turns (each_of _ _ turn_back e.turns (recursion_from_All _ _ h.each_turn)) in
+      let input = few_back integer as_signed NUMBERS_LIMIT e.input h.input (all_are _ _ signed_back e.input h.numbers) in
+      let turns = few_back turn_value as_turn RECORDING_STEP_LIMIT e.turns h.turns (all_are _ _ turn_back e.turns h.each_turn) in
       rw (gated, input, turns) refl
 
   pub is_book : (es : List BookEntryParts) → AreWithin es → IsBook (book_text es) es
   unfolding serde_json_on_literals
   is_book es h =
-      let each_within = recursion_from_All IsWithin es h.1 in
-      let reads = book_read es each_within in
+      let reads = book_read es h.1 in
       let count = length-each entry_value es in
       let few = h.0 in
       record {
@@ -204,5 +205,5 @@ module _ (kind_back : (k : TurnKind) → kind_named (kind_text k) ≡ Some k) wh
         json = (IsUtf8-append _ _ reads.utf8 (IsUtf8-are_ascii (10 ∷ []) refl), line_read (book_value es) 5 (omega arith) reads);
         items = each entry_value es;
         outer = refl;
-        so = (omega (arith, count, few), each_back entry_value as_entry es (each_of _ _ entry_back es each_within));
+        so = (omega (arith, count, few), each_back entry_value as_entry es (all_are _ _ entry_back es h.1));
       }

@@ -1,6 +1,6 @@
 //! From a book to bytes.
 
-ghost use Rattle.std.specs.Prelude.{◌≡◌, ◌++◌, IfOk, OnOk};
+ghost use Rattle.std.specs.Prelude.{◌≡◌, ◌++◌, map, IfOk, OnOk};
 ghost use Rattle.serde_json.specs.Data.{Data, array};
 ghost use Rattle.serde_json.specs.View.{view};
 ghost use Rattle.serde_json.specs.Written.{compact_text};
@@ -86,6 +86,14 @@ impl Written for BookEntry {
     }
 }
 
+/// Adds the text of the list of entries.
+fn add_entries(alloc: Global, entries: &[BookEntry], text: &mut Vec<u8>) -> Result<(), AllocError>
+    ensures { OnOk result (text.new.items ≡ text.old.items ++ compact_text (array (each entry_value (map parts_of entries.now)))) }
+{
+    add_list(alloc, entries, text)?;
+    Ok(())
+}
+
 /// The text of a book. It is made turn by turn: the JSON value of a whole book would take some ten times as much memory.
 ///
 /// # Errors
@@ -96,7 +104,7 @@ pub fn write_book(alloc: Global, book: &Book) -> Result<Vec<u8>, AllocError>
 {
     let mut text = Vec::new(alloc);
     text.extend_from_slice(b"{\"entries\":")?;
-    add_list(alloc, book.entries.as_slice(), &mut text)?;
+    add_entries(alloc, book.entries.as_slice(), &mut text)?;
     text.extend_from_slice(b",\"peregrine\":1}\n")?;
     Ok(text)
 }
