@@ -6,8 +6,10 @@ use Rattle.pg_ir.specs.Program.{NumberedProgram}
 use Rattle.pg_num.specs.declared.limits.TheConstants.{SESSION_INPUT_LIMIT}
 use Rattle.pg_io.specs.Faults.{Rose}
 use Rattle.pg_io.specs.Streams.{AppendsFront, TakesAtMost}
-use Rattle.pg_commands_words.specs.Once.{Word}
+use Rattle.pg_commands_words.specs.Pieces.{Word}
 use Rattle.pg_commands_words.specs.Commands.{serve}
+use Rattle.pg_cache.specs.Kept.{Kept}
+use Rattle.pg_session_entry.specs.Entries.{EntryParts}
 use Rattle.pg_session.specs.Lines.{lines_of}
 use Rattle.pg_session.specs.Sessions.{begin}
 use Rattle.pg_session.specs.Texts.{HasBytes, ServesAll, ServesFront, ServesLimit, ServesTaken}
@@ -150,3 +152,29 @@ pub of_runner : (w : World) (file : Word) (quantum of : ℕ) (p q : NumberedProg
     → (Program w file q → EndsAs w (serve file of) status) → EndsAs w (serve file quantum) status
 of_runner w file quantum of p q status same e prog ends =
     subst (λ n. EndsAs w (serve file n) status) same (ends (subst (Program w file) (sym e) prog))
+
+-- ---- the session begins with no entries
+
+pub serve_done_of : (w : World) (file : Word) (quantum : ℕ) (p : NumberedProgram) (first : Kept EntryParts) → first ≡ begin → Program w file p → Fetches w
+    → w.source.reads_after ≡ w.source.reads_before → w.sink.writes_after ≡ w.sink.writes_before → TakesAtMost w.source.rest_before w.source.rest_after (SESSION_INPUT_LIMIT + 1)
+    → HasBytes w.source.rest_before (ServesAll entry_admits (runs_of p quantum) first w.sink.taken_before w.sink.taken_after) → EndsAs w (serve file quantum) Done
+serve_done_of w file quantum p first is f fetches reads writes takes session =
+    serve_done w file quantum p f fetches reads writes takes
+    (subst (λ (k : Kept EntryParts). HasBytes w.source.rest_before (ServesAll entry_admits (runs_of p quantum) k w.sink.taken_before w.sink.taken_after)) is session)
+
+pub serve_stopped_of : (w : World) (file : Word) (quantum : ℕ) (p : NumberedProgram) (first : Kept EntryParts) (f : ServeFault) → first ≡ begin → Program w file p → Fetches w
+    → (Is f fault.InputLimit → HasBytes w.source.rest_before (ServesLimit entry_admits (runs_of p quantum) first w.sink.taken_before w.sink.taken_after))
+    → (Is f fault.ReadFault → ServesTaken entry_admits (runs_of p quantum) first w.source.rest_before w.source.rest_after w.sink.taken_before w.sink.taken_after)
+    → (Is f fault.WriteFault → HasBytes w.source.rest_before (λ input. ServesFront entry_admits (runs_of p quantum) first (lines_of input) w.sink.taken_before w.sink.taken_after))
+    → (Is f fault.OutOfMemory → HasBytes w.source.rest_before (λ input. ServesFront entry_admits (runs_of p quantum) first (lines_of input) w.sink.taken_before w.sink.taken_after))
+    → (Is f fault.ReadFault → Rose w.source.reads_before w.source.reads_after) → (Is f fault.ReadFault → TakesAtMost w.source.rest_before w.source.rest_after SESSION_INPUT_LIMIT)
+    → (Is f fault.ReadFault) ⊎ (w.source.reads_after ≡ w.source.reads_before)
+    → (Is f fault.WriteFault → Rose w.sink.writes_before w.sink.writes_after) → (Is f fault.WriteFault) ⊎ (w.sink.writes_after ≡ w.sink.writes_before)
+    → TakesAtMost w.source.rest_before w.source.rest_after (SESSION_INPUT_LIMIT + 1) → EndsAs w (serve file quantum) (status_of f)
+serve_stopped_of w file quantum p first f is prog fetches limit unread cut starved cause within reads wrote writes takes =
+    serve_stopped w file quantum p f prog fetches
+    (λ x. subst (λ (k : Kept EntryParts). HasBytes w.source.rest_before (ServesLimit entry_admits (runs_of p quantum) k w.sink.taken_before w.sink.taken_after)) is (limit x))
+    (λ x. subst (λ (k : Kept EntryParts). ServesTaken entry_admits (runs_of p quantum) k w.source.rest_before w.source.rest_after w.sink.taken_before w.sink.taken_after) is (unread x))
+    (λ x. subst (λ (k : Kept EntryParts). HasBytes w.source.rest_before (λ input. ServesFront entry_admits (runs_of p quantum) k (lines_of input) w.sink.taken_before w.sink.taken_after)) is (cut x))
+    (λ x. subst (λ (k : Kept EntryParts). HasBytes w.source.rest_before (λ input. ServesFront entry_admits (runs_of p quantum) k (lines_of input) w.sink.taken_before w.sink.taken_after)) is (starved x))
+    cause within reads wrote writes takes

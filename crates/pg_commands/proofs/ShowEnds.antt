@@ -3,7 +3,7 @@ use Rattle.std.proofs.Common.{◌≡◌, refl, sym, subst, ℕ, ℤ, inl, inr, L
 use Rattle.std.specs.Io.KnownBytes.{Appends}
 use Rattle.pg_io.specs.Faults.{Rose}
 use Rattle.pg_io.specs.Streams.{AppendsFront, TakesAtMost}
-use Rattle.pg_commands_words.specs.Once.{Word}
+use Rattle.pg_commands_words.specs.Pieces.{Word}
 use Rattle.pg_commands_words.specs.Commands.{show}
 use Rattle.pg_commands.specs.declared.status.Status.{Status}
 use Rattle.pg_commands.specs.declared.status.Status.TheVariants.{WriteFault}

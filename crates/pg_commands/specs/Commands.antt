@@ -5,7 +5,7 @@ use Rattle.pg_num.specs.declared.limits.TheConstants.{PROGRAM_TEXT_LIMIT, SESSIO
 use Rattle.pg_ir.specs.Program.{NumberedProgram}
 use Rattle.pg_io.specs.Faults.{Rose}
 use Rattle.pg_io.specs.Streams.{AppendsFront, TakesAtMost}
-use Rattle.pg_commands_words.specs.Once.{Word}
+use Rattle.pg_commands_words.specs.Pieces.{Word}
 use Rattle.pg_commands_words.specs.Commands.{IsServe, Meaning, Means, NoCommand, once, serve, show, trial}
 use Rattle.pg_commands_words.specs.declared.values.TheConstants.{DEFAULT_QUANTUM}
 use Rattle.pg_session_trial.specs.Program.{trial_program}

@@ -1,32 +1,26 @@
 -- What the parser finds in a line: it takes it, and has the text of the quantum and the positionals.
-use Rattle.std.proofs.Common.{◌≡◌, ◌∙◌, ◌&&◌, Bool, cond, true, false, refl, sym, ap, subst, List, [], ◌∷◌, ◌++◌, codes, Some, is_some}
-use Rattle.std.specs.List.{fold}
-use Rattle.std.proofs.lemmas.List.Sums.{fold-append}
+use Rattle.std.proofs.Common.{◌≡◌, ◌∙◌, ◌&&◌, Bool, cond, true, false, refl, sym, ap, subst, ◌≤◌, List, [], ◌∷◌, ◌++◌, codes, length, Some, is_some}
+use Rattle.std.specs.List.{fold, list_all}
 use Rattle.clap.specs.Walk.{Names, Row, Text, Walk, has_row, nothing_held, settled, walk, walk_from, walked, with_default}
 use Rattle.clap.specs.Simple.{Shape, built, entered, subcommand_of}
 use Rattle.clap.specs.Takes.{entered_passes, level_passes, takes, turn_passes, walk_passes, settle_passes}
 use Rattle.clap.proofs.OnLiterals.{clap_on_literals}
 use Rattle.clap.proofs.WalkLemmas.{walk_stopped}
 use Rattle.pg_commands_words.specs.Clap.{program_app}
-use Rattle.pg_commands_words.specs.Once.{Word, Line, are_names, words_of, words_of_end, positionals_of_end}
-use Rattle.pg_commands_words.specs.Lines.{IsLine, is_plain_choice, name_word}
+use Rattle.pg_commands_words.specs.Pieces.{Line, Word, is_plain, positionals_of_end, quanta_of, words_of, words_of_end}
+use Rattle.pg_commands_words.specs.Lines.{IsLine, is_followed, name_word}
 use Rattle.pg_commands_words.specs.declared.names.Name.{Name}
 use Rattle.pg_commands_words.specs.declared.names.Name.TheVariants.{Once, Serve, Show, Trial}
-use Rattle.pg_commands_words.proofs.Lines.{plain-left, plain-right}
-use Rattle.pg_commands_words.proofs.Walks.{Reaches, begun, built_quantum, choice-reach, end-reach, once_rules, once_shape, plain-reach, state, with_choice, with_number}
-use Rattle.pg_commands_words.proofs.Rows.{before-free, rows_before, rows_of_line}
+use Rattle.pg_commands_words.proofs.Walks.{Reaches, begun, built_quantum, end-reach, once_rules, once_shape, pieces-reach, state, with_number}
+use Rattle.pg_commands_words.proofs.Rows.{rows_of_line}
 
 -- ---- a whole line
 
-pub line-reach : (line : Line) → are_names (line.before ++ line.between) ≡ true → is_plain_choice line.choice ≡ true
+pub line-reach : (line : Line) → list_all is_plain line.pieces ≡ true → list_all is_followed line.pieces ≡ true → length (quanta_of line) ≤ 1
     → Reaches (state [] begun false) (words_of line) (rows_of_line line)
-line-reach line plain followed =
-    plain-reach line.before _ [] (rows_of_line line) (plain-left line.before line.between plain)
-    (choice-reach line.choice (rows_before line) _ (rows_of_line line) followed (before-free line)
-    (plain-reach line.between (words_of_end line.end) (with_choice line.choice (rows_before line)) (rows_of_line line) (plain-right line.before line.between plain)
-    (λ last rows can is. subst (Reaches (state rows last false) (words_of_end line.end))
-    (ap (λ rs. fold with_number rs (positionals_of_end line.end)) is ∙ sym (fold-append with_number (with_choice line.choice (rows_before line)) line.between (positionals_of_end line.end)))
-    (end-reach line.end last rows can))))
+line-reach line plain followed few =
+    pieces-reach line.pieces (words_of_end line.end) [] (rows_of_line line) plain followed few refl
+    (λ last rows can is. subst (Reaches (state rows last false) (words_of_end line.end)) (ap (λ rs. fold with_number rs (positionals_of_end line.end)) is) (end-reach line.end last rows can))
     begun [] tt refl
 
 -- ---- the words after the command word are left to the subcommand
@@ -52,7 +46,7 @@ no-defaults rows = same (has_row (codes "words") (with_default rows built_quantu
     same false xs = refl
 
 line-reaches : (words : List Word) (l : IsLine words) → Reaches (state [] begun false) words (rows_of_line l.line)
-line-reaches words l = subst (λ ws. Reaches (state [] begun false) ws (rows_of_line l.line)) (sym l.spelled) (line-reach l.line l.plain l.followed)
+line-reaches words l = subst (λ ws. Reaches (state [] begun false) ws (rows_of_line l.line)) (sym l.spelled) (line-reach l.line l.plain l.followed l.once)
 
 -- what a subcommand finds in a line
 found-there : (words : List Word) (l : IsLine words) → fold with_default (settled once_rules (walk once_rules [] nothing_held words).held).rows once_rules ≡ rows_of_line l.line

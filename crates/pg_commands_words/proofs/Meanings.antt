@@ -1,6 +1,7 @@
 -- What the parser's matches of a line say is what the line is.
-use Rattle.std.proofs.Common.{◌≡◌, ◌≤◌, arith, ◌∙◌, ◌&&◌, ℕ, ℤ, Bool, cond, true, false, refl, sym, ap, subst, List, [], ◌∷◌, ◌++◌, map, codes, Option}
+use Rattle.std.proofs.Common.{◌≡◌, ◌≤◌, arith, ◌∙◌, ◌&&◌, ℕ, ℤ, Bool, cond, true, false, refl, sym, ap, subst, List, [], ◌∷◌, map, codes, Option}
 use Rattle.std.proofs.Common.{Some, None, IfSome, IfNone}
+use Rattle.std.specs.List.{list_all}
 use Rattle.std.specs.Str.{bytes_eq}
 use Rattle.std.proofs.lemmas.Slice.Eq.{bytes_eq-Decides}
 use Rattle.std.proofs.lemmas.Bool.{leb-true}
@@ -15,17 +16,19 @@ use Rattle.pg_commands_words.specs.declared.values.TheConstants.{DEFAULT_QUANTUM
 use Rattle.pg_commands_words.specs.declared.names.Name.{Name}
 use Rattle.pg_commands_words.specs.declared.names.Name.TheVariants.{Once, Serve, Show, Trial}
 use Rattle.pg_commands_words.specs.Clap.{HasValues, Reads, ReadsNone, Says, SaysNone, SaysOf, name_of, program_app, quantum_in, quantum_of_text, words_in}
-use Rattle.pg_commands_words.specs.Commands.{IsServe, IsShow, IsTrial, IsWithin, Meaning, Means, NoCommand, once, serve, show, trial, trial_of}
-use Rattle.pg_commands_words.specs.Once.{Word, Choice, left_out, apart, joined, IsOnce, Line, are_names, number_of, positionals_of, quantum_of, quantum_of_choice, words_of}
-use Rattle.pg_commands_words.specs.Lines.{IsLine, is_line, is_plain_choice, name_of_line, name_word, named}
-use Rattle.pg_commands_words.proofs.Lines.{choice-plain, line-found, line-passes}
-use Rattle.pg_commands_words.proofs.Rows.{numbers-found, quantum-found, rows_of_line, text_of_choice}
+use Rattle.pg_commands_words.specs.Commands.{IsWithin, Meaning, Means, NoCommand, once, serve, show, trial, trial_of}
+use Rattle.pg_commands_words.specs.Once.{number_of, quantum_of, quantum_of_values}
+use Rattle.pg_commands_words.specs.Pieces.{Line, Word, is_plain, positionals_of, quanta_of, words_of}
+use Rattle.pg_commands_words.specs.Lines.{IsLine, is_followed, is_line, name_of_line, name_word, named}
+use Rattle.pg_commands_words.proofs.Lines.{few-values, line-found, line-passes, none-followed, pieces-followed}
+use Rattle.pg_commands_words.proofs.Rows.{numbers-found, quantum-found, rows_of_line, text_of}
 use Rattle.pg_commands_words.proofs.Found.{line-rows, line-taken}
 
-text-read : (choice : Choice) → quantum_of_text (text_of_choice choice) ≡ quantum_of_choice choice
-text-read left_out = refl
-text-read (apart value) = refl
-text-read (joined value) = refl
+-- the quantum of one value at most is that of its text
+text-read : (values : List Word) → length values ≤ 1 → quantum_of_text (text_of values) ≡ quantum_of_values values
+text-read [] few = refl
+text-read (value ∷ []) few = refl
+text-read (value ∷ other ∷ values) few = absurd (omega (arith, few))
 
 -- ---- a command, and what its option and its positionals say
 
@@ -33,81 +36,85 @@ text-read (joined value) = refl
 pub record IsSaid (words : List Word) (meaning : Meaning) : Type 0 where
   pub line : Line
   pub spelled : words ≡ name_word (name_of meaning) ∷ words_of line
-  pub plain : are_names (line.before ++ line.between) ≡ true
-  pub followed : is_plain_choice line.choice ≡ true
-  pub says : Says (text_of_choice line.choice) (positionals_of line) meaning
+  pub plain : list_all is_plain line.pieces ≡ true
+  pub followed : list_all is_followed line.pieces ≡ true
+  pub once : length (quanta_of line) ≤ 1
+  pub says : Says (text_of (quanta_of line)) (positionals_of line) meaning
 
-no-choice : (choice : Choice) → choice ≡ left_out → (is_plain_choice choice ≡ true) × (text_of_choice choice ≡ None)
-no-choice choice is = (ap is_plain_choice is, ap text_of_choice is)
+none-few : (values : List Word) → values ≡ [] → length values ≤ 1
+none-few values e = rw e (omega arith)
 
-none-chosen : (choice : Choice) → text_of_choice choice ≡ None → choice ≡ left_out
-none-chosen left_out e = refl
-none-chosen (apart value) e = absurd cc
-none-chosen (joined value) e = absurd cc
+none-text : (values : List Word) → text_of values ≡ None → values ≡ []
+none-text [] e = refl
+none-text (value ∷ values) e = absurd cc
 
 said : (words : List Word) (meaning : Meaning) → Means words meaning → IsSaid words meaning
 said words (once quantum numbers) o = record {
   line = o.line;
   spelled = o.spelled;
   plain = o.plain;
-  followed = choice-plain o.line.choice quantum o.has_quantum;
-  says = record { has_quantum = text-read o.line.choice ∙ o.has_quantum; has_numbers = o.has_numbers; few = o.few };
+  followed = pieces-followed o.line.pieces quantum o.has_quantum;
+  once = few-values (quanta_of o.line) quantum o.has_quantum;
+  says = record { has_quantum = text-read (quanta_of o.line) (few-values (quanta_of o.line) quantum o.has_quantum) ∙ o.has_quantum; has_numbers = o.has_numbers; few = o.few };
 }
 said words (serve file quantum) o = record {
   line = o.line;
   spelled = o.spelled;
   plain = o.plain;
-  followed = choice-plain o.line.choice quantum o.has_quantum;
-  says = (text-read o.line.choice ∙ o.has_quantum, o.has_file);
+  followed = pieces-followed o.line.pieces quantum o.has_quantum;
+  once = few-values (quanta_of o.line) quantum o.has_quantum;
+  says = (text-read (quanta_of o.line) (few-values (quanta_of o.line) quantum o.has_quantum) ∙ o.has_quantum, o.has_file);
 }
 said words (show file quantum numbers) o = record {
   line = o.line;
   spelled = o.spelled;
   plain = o.plain;
-  followed = choice-plain o.line.choice quantum o.has_quantum;
-  says = (o.texts, o.has_file, record { has_quantum = text-read o.line.choice ∙ o.has_quantum; has_numbers = o.has_numbers; few = o.few });
+  followed = pieces-followed o.line.pieces quantum o.has_quantum;
+  once = few-values (quanta_of o.line) quantum o.has_quantum;
+  says = (o.texts, o.has_file, record { has_quantum = text-read (quanta_of o.line) (few-values (quanta_of o.line) quantum o.has_quantum) ∙ o.has_quantum; has_numbers = o.has_numbers; few = o.few });
 }
 said words (trial number) o = record {
   line = o.line;
   spelled = o.spelled;
   plain = o.plain;
-  followed = (no-choice o.line.choice o.no_option).0;
-  says = ((no-choice o.line.choice o.no_option).1, o.text, o.has_text, o.has_number);
+  followed = none-followed o.line.pieces o.no_option;
+  once = none-few (quanta_of o.line) o.no_option;
+  says = (ap text_of o.no_option, o.text, o.has_text, o.has_number);
 }
 
-means : (words : List Word) (meaning : Meaning) (line : Line) → words ≡ name_word (name_of meaning) ∷ words_of line → are_names (line.before ++ line.between) ≡ true
-    → Says (text_of_choice line.choice) (positionals_of line) meaning → Means words meaning
-means words (once quantum numbers) line spelled plain says = record {
+means : (words : List Word) (meaning : Meaning) (line : Line) → words ≡ name_word (name_of meaning) ∷ words_of line → list_all is_plain line.pieces ≡ true → length (quanta_of line) ≤ 1
+    → Says (text_of (quanta_of line)) (positionals_of line) meaning → Means words meaning
+means words (once quantum numbers) line spelled plain few says = record {
   line = line;
   spelled = spelled;
   plain = plain;
-  has_quantum = sym (text-read line.choice) ∙ says.has_quantum;
+  has_quantum = sym (text-read (quanta_of line) few) ∙ says.has_quantum;
   has_numbers = says.has_numbers;
   few = says.few;
 }
-means words (serve file quantum) line spelled plain says = record {
+means words (serve file quantum) line spelled plain few says = record {
   line = line;
   spelled = spelled;
   plain = plain;
-  has_quantum = sym (text-read line.choice) ∙ says.0;
+  has_quantum = sym (text-read (quanta_of line) few) ∙ says.0;
   has_file = says.1;
 }
-means words (show file quantum numbers) line spelled plain says = record {
+means words (show file quantum numbers) line spelled plain few says = record {
   line = line;
   texts = says.0;
   spelled = spelled;
   plain = plain;
-  has_quantum = sym (text-read line.choice) ∙ says.2.has_quantum;
+  has_quantum = sym (text-read (quanta_of line) few) ∙ says.2.has_quantum;
   has_file = says.1;
   has_numbers = says.2.has_numbers;
   few = says.2.few;
 }
-means words (trial number) line spelled plain says = record {
+means words (trial number) line spelled plain few says = record {
   line = line;
   text = says.1;
   spelled = spelled;
   plain = plain;
-  no_option = none-chosen line.choice says.0;
+  no_option = none-text (quanta_of line) says.0;
   has_text = says.2;
   has_number = says.3;
 }
@@ -164,7 +171,7 @@ named-word Trial = refl
 pub name-passes : (words : List Word) (meaning : Meaning) → Means words meaning → name_of_line words ≡ Some (name_of meaning)
 name-passes words meaning m =
     let s = said words meaning m in
-    ap name_of_line s.spelled ∙ ap (λ b. cond b (named (name_word (name_of meaning))) None) (line-passes s.line s.plain s.followed) ∙ named-word (name_of meaning)
+    ap name_of_line s.spelled ∙ ap (λ b. cond b (named (name_word (name_of meaning))) None) (line-passes s.line s.plain s.followed s.once) ∙ named-word (name_of meaning)
 
 pub taken : (words : List Word) (name : Name) → name_of_line words ≡ Some name → takes program_app words ≡ true
 taken words name e = let l = name-found words name e in ap (takes program_app) l.spelled ∙ line-taken name l.rest l.line
@@ -177,20 +184,20 @@ name-read words name meaning e r =
     let line = l.line.line in
     let found : subcommand_of program_app words ≡ Some (name_word name, rows_of_line line) = ap (subcommand_of program_app) l.spelled ∙ line-rows name l.rest l.line in
     let g : SaysOf name (quantum_in (rows_of_line line)) (words_in (rows_of_line line)) meaning = subst (λ f. Reads name f meaning) found r in
-    let h : Says (text_of_choice line.choice) (positionals_of line) meaning =
-    subst (λ o. Says o (positionals_of line) meaning) (quantum-found line) (subst (λ ws. Says (quantum_in (rows_of_line line)) ws meaning) (numbers-found line) g.1) in
-    means words meaning line (l.spelled ∙ ap (λ ws. name_word name ∷ ws) l.line.spelled ∙ ap (λ n. name_word n ∷ words_of line) (sym g.0)) l.line.plain h
+    let h : Says (text_of (quanta_of line)) (positionals_of line) meaning =
+    subst (λ o. Says o (positionals_of line) meaning) (quantum-found line l.line.once) (subst (λ ws. Says (quantum_in (rows_of_line line)) ws meaning) (numbers-found line l.line.once) g.1) in
+    means words meaning line (l.spelled ∙ ap (λ ws. name_word name ∷ ws) l.line.spelled ∙ ap (λ n. name_word n ∷ words_of line) (sym g.0)) l.line.plain l.line.once h
 
 -- the matches of the words of a command say what it is
 pub reads : (words : List Word) (meaning : Meaning) → Means words meaning → Reads (name_of meaning) (subcommand_of program_app words) meaning
 reads words meaning m =
     let s = said words meaning m in
     let line = s.line in
-    let l : IsLine (words_of line) = record { line = line; spelled = refl; plain = s.plain; followed = s.followed } in
+    let l : IsLine (words_of line) = record { line = line; spelled = refl; plain = s.plain; followed = s.followed; once = s.once } in
     let found : subcommand_of program_app words ≡ Some (name_word (name_of meaning), rows_of_line line) =
     ap (subcommand_of program_app) s.spelled ∙ line-rows (name_of meaning) (words_of line) l in
     let h : Says (quantum_in (rows_of_line line)) (words_in (rows_of_line line)) meaning =
-    subst (λ o. Says o (words_in (rows_of_line line)) meaning) (sym (quantum-found line)) (subst (λ ws. Says (text_of_choice line.choice) ws meaning) (sym (numbers-found line)) s.says) in
+    subst (λ o. Says o (words_in (rows_of_line line)) meaning) (sym (quantum-found line s.once)) (subst (λ ws. Says (text_of (quanta_of line)) ws meaning) (sym (numbers-found line s.once)) s.says) in
     subst (λ f. Reads (name_of meaning) f meaning) (sym found) (refl, h)
 
 pub none-read : (words : List Word) (name : Name) → name_of_line words ≡ Some name → ReadsNone name (subcommand_of program_app words) → NoCommand words
@@ -276,12 +283,12 @@ value-range word q e =
     let most = leb-true (natural_of word) QUANTUM_LIMIT r.1 in
     (omega (arith, least, r.2), omega (arith, most, r.2))
 
-choice-range : (choice : Choice) (q : ℕ) → quantum_of_choice choice ≡ Some q → (1 ≤ q) × (q ≤ QUANTUM_LIMIT)
-choice-range left_out q e =
+values-range : (values : List Word) (q : ℕ) → quantum_of_values values ≡ Some q → (1 ≤ q) × (q ≤ QUANTUM_LIMIT)
+values-range [] q e =
     let is = same-quantum DEFAULT_QUANTUM q e in
     (omega (arith, is), omega (arith, is))
-choice-range (apart value) q e = value-range value q e
-choice-range (joined value) q e = value-range value q e
+values-range (value ∷ []) q e = value-range value q e
+values-range (value ∷ other ∷ values) q e = absurd cc
 
 trial-range : (word : Word) (n : ℕ) → trial_of word ≡ Some n → n ≤ TRIAL_LIMIT
 trial-range word n e = go (are_digits word) (nat_le (natural_of word) TRIAL_LIMIT) refl e
@@ -296,9 +303,9 @@ trial-range word n e = go (are_digits word) (nat_le (natural_of word) TRIAL_LIMI
 
 -- a command's values are within their limits
 pub within : (words : List Word) (meaning : Meaning) → Means words meaning → IsWithin meaning
-within words (once quantum numbers) o = let r = choice-range o.line.choice quantum o.has_quantum in (r.0, r.1, o.few)
-within words (serve file quantum) o = choice-range o.line.choice quantum o.has_quantum
-within words (show file quantum numbers) o = let r = choice-range o.line.choice quantum o.has_quantum in (r.0, r.1, o.few)
+within words (once quantum numbers) o = let r = values-range (quanta_of o.line) quantum o.has_quantum in (r.0, r.1, o.few)
+within words (serve file quantum) o = values-range (quanta_of o.line) quantum o.has_quantum
+within words (show file quantum numbers) o = let r = values-range (quanta_of o.line) quantum o.has_quantum in (r.0, r.1, o.few)
 within words (trial number) o = trial-range o.text number o.has_number
 
 -- ---- clauses about a value that may be there

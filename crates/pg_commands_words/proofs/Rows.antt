@@ -1,6 +1,6 @@
 -- What the rows of a line's uses say: the quantum's text and the positionals, in order.
-use Rattle.std.proofs.Common.{◌≡◌, ◌∙◌, ◌||◌, Bool, cond, true, false, refl, sym, ap, List, [], ◌∷◌, ◌++◌, codes, Option, Some, None, append_assoc, append-nil}
-use Rattle.std.specs.List.{find, fold}
+use Rattle.std.proofs.Common.{◌≡◌, ◌∙◌, ◌||◌, Bool, cond, true, false, refl, sym, ap, ◌≤◌, List, [], ◌∷◌, ◌++◌, codes, length, Option, Some, None, append_assoc, append-nil}
+use Rattle.std.specs.List.{filter_map, find, fold}
 use Rattle.std.specs.Option.{option_map, option_or, unwrap_or}
 use Rattle.std.specs.Prelude.{option_and_then, slice_get}
 use Rattle.std.specs.Str.{bytes_eq}
@@ -8,25 +8,17 @@ use Rattle.std.proofs.lemmas.Slice.Eq.{bytes_eq-Decides}
 use Rattle.std.proofs.lemmas.List.Folds.{find-append}
 use Rattle.clap.specs.Walk.{Row, at_row, has_row, more_values, without}
 use Rattle.clap.specs.declared.parser.matches.ValueSource.TheVariants.{CommandLine}
-use Rattle.pg_commands_words.specs.Once.{Word, Choice, left_out, apart, joined, Line, positionals_of, positionals_of_end}
+use Rattle.pg_commands_words.specs.Pieces.{Line, Piece, Word, positional, positional_in, positionals_of, positionals_of_end, quanta_of, quantum_apart, quantum_joined}
 use Rattle.pg_commands_words.specs.Clap.{words_in, quantum_in}
-use Rattle.pg_commands_words.proofs.Walks.{has_quantum_row, with_choice, with_number, with_quantum}
+use Rattle.pg_commands_words.proofs.Lines.{is-none, no-more, quanta}
+use Rattle.pg_commands_words.proofs.Walks.{has_quantum_row, has_quantum_row-number, with_number, with_piece, with_quantum}
 
-abbrev pub text_of_choice : Choice → Option Word
-text_of_choice left_out = None
-text_of_choice (apart value) = Some value
-text_of_choice (joined value) = Some value
+-- the text of the option where it stands in a line
+abbrev pub text_of : List Word → Option Word
+text_of [] = None
+text_of (value ∷ values) = Some value
 
 -- ---- one more number
-
-has_quantum_row-number : (rows : List Row) (word : Word) → has_quantum_row (with_number rows word) ≡ has_quantum_row rows
-has_quantum_row-number [] word = refl
-has_quantum_row-number (r ∷ rs) word = by (bytes_eq r.id (codes "words")) (has_quantum_row-number rs word)
-  where
-    by : (b : Bool) → has_quantum_row (with_number rs word) ≡ has_quantum_row rs
-        → has_quantum_row (cond b (more_values CommandLine (word ∷ []) r ++ rs) (r ∷ with_number rs word)) ≡ (bytes_eq r.id (codes "quantum") || has_quantum_row rs)
-    by true e = refl
-    by false e = ap (λ b. bytes_eq r.id (codes "quantum") || b) e
 
 words_in-number : (rows : List Row) (word : Word) → words_in (with_number rows word) ≡ words_in rows ++ word ∷ []
 words_in-number [] word = refl
@@ -102,10 +94,6 @@ no-quantum_in rows none = ap (λ o. option_and_then (λ (r : Row). slice_get r.v
 
 -- ---- all of a line
 
-pub has_quantum_row-numbers : (words : List Word) (rows : List Row) → has_quantum_row (fold with_number rows words) ≡ has_quantum_row rows
-has_quantum_row-numbers [] rows = refl
-has_quantum_row-numbers (word ∷ words) rows = has_quantum_row-numbers words (with_number rows word) ∙ has_quantum_row-number rows word
-
 words_in-numbers : (words : List Word) (rows : List Row) → words_in (fold with_number rows words) ≡ words_in rows ++ words
 words_in-numbers [] rows = sym (append-nil (words_in rows))
 words_in-numbers (word ∷ words) rows =
@@ -115,32 +103,50 @@ quantum_in-numbers : (words : List Word) (rows : List Row) → quantum_in (fold 
 quantum_in-numbers [] rows = refl
 quantum_in-numbers (word ∷ words) rows = quantum_in-numbers words (with_number rows word) ∙ quantum_in-number rows word
 
-words_in-choice : (choice : Choice) (rows : List Row) → has_quantum_row rows ≡ false → words_in (with_choice choice rows) ≡ words_in rows
-words_in-choice left_out rows none = refl
-words_in-choice (apart value) rows none = words_in-quantum rows value none
-words_in-choice (joined value) rows none = words_in-quantum rows value none
+-- pieces of which none is the option
+words_in-names : (pieces : List Piece) (rows : List Row) → quanta pieces ≡ [] → words_in (fold with_piece rows pieces) ≡ words_in rows ++ filter_map positional_in pieces
+words_in-names [] rows none = sym (append-nil (words_in rows))
+words_in-names (positional word ∷ pieces) rows none =
+    words_in-names pieces (with_number rows word) none ∙ ap (λ xs. xs ++ filter_map positional_in pieces) (words_in-number rows word)
+    ∙ append_assoc (words_in rows) (word ∷ []) (filter_map positional_in pieces)
+words_in-names (quantum_apart value ∷ pieces) rows none = absurd (is-none value (quanta pieces) none)
+words_in-names (quantum_joined value ∷ pieces) rows none = absurd (is-none value (quanta pieces) none)
 
-quantum_in-choice : (choice : Choice) (rows : List Row) → has_quantum_row rows ≡ false → quantum_in (with_choice choice rows) ≡ text_of_choice choice
-quantum_in-choice left_out rows none = no-quantum_in rows none
-quantum_in-choice (apart value) rows none = quantum_in-quantum rows value none
-quantum_in-choice (joined value) rows none = quantum_in-quantum rows value none
+quantum_in-names : (pieces : List Piece) (rows : List Row) → quanta pieces ≡ [] → quantum_in (fold with_piece rows pieces) ≡ quantum_in rows
+quantum_in-names [] rows none = refl
+quantum_in-names (positional word ∷ pieces) rows none = quantum_in-names pieces (with_number rows word) none ∙ quantum_in-number rows word
+quantum_in-names (quantum_apart value ∷ pieces) rows none = absurd (is-none value (quanta pieces) none)
+quantum_in-names (quantum_joined value ∷ pieces) rows none = absurd (is-none value (quanta pieces) none)
 
-abbrev pub rows_before : Line → List Row
-rows_before line = fold with_number [] line.before
+-- pieces of which one at most is the option
+words_in-pieces : (pieces : List Piece) (rows : List Row) → length (quanta pieces) ≤ 1 → has_quantum_row rows ≡ false
+    → words_in (fold with_piece rows pieces) ≡ words_in rows ++ filter_map positional_in pieces
+words_in-pieces [] rows few first = sym (append-nil (words_in rows))
+words_in-pieces (positional word ∷ pieces) rows few first =
+    words_in-pieces pieces (with_number rows word) few (has_quantum_row-number rows word ∙ first) ∙ ap (λ xs. xs ++ filter_map positional_in pieces) (words_in-number rows word)
+    ∙ append_assoc (words_in rows) (word ∷ []) (filter_map positional_in pieces)
+words_in-pieces (quantum_apart value ∷ pieces) rows few first =
+    words_in-names pieces (with_quantum rows value) (no-more value (quanta pieces) few) ∙ ap (λ xs. xs ++ filter_map positional_in pieces) (words_in-quantum rows value first)
+words_in-pieces (quantum_joined value ∷ pieces) rows few first =
+    words_in-names pieces (with_quantum rows value) (no-more value (quanta pieces) few) ∙ ap (λ xs. xs ++ filter_map positional_in pieces) (words_in-quantum rows value first)
+
+quantum_in-pieces : (pieces : List Piece) (rows : List Row) → length (quanta pieces) ≤ 1 → has_quantum_row rows ≡ false
+    → quantum_in (fold with_piece rows pieces) ≡ text_of (quanta pieces)
+quantum_in-pieces [] rows few first = no-quantum_in rows first
+quantum_in-pieces (positional word ∷ pieces) rows few first = quantum_in-pieces pieces (with_number rows word) few (has_quantum_row-number rows word ∙ first)
+quantum_in-pieces (quantum_apart value ∷ pieces) rows few first =
+    quantum_in-names pieces (with_quantum rows value) (no-more value (quanta pieces) few) ∙ quantum_in-quantum rows value first
+quantum_in-pieces (quantum_joined value ∷ pieces) rows few first =
+    quantum_in-names pieces (with_quantum rows value) (no-more value (quanta pieces) few) ∙ quantum_in-quantum rows value first
 
 abbrev pub rows_of_line : Line → List Row
-rows_of_line line = fold with_number (with_choice line.choice (rows_before line)) (line.between ++ positionals_of_end line.end)
+rows_of_line line = fold with_number (fold with_piece [] line.pieces) (positionals_of_end line.end)
 
-pub before-free : (line : Line) → has_quantum_row (rows_before line) ≡ false
-before-free line = has_quantum_row-numbers line.before []
+pub numbers-found : (line : Line) → length (quanta_of line) ≤ 1 → words_in (rows_of_line line) ≡ positionals_of line
+numbers-found line few =
+    words_in-numbers (positionals_of_end line.end) (fold with_piece [] line.pieces)
+    ∙ ap (λ xs. xs ++ positionals_of_end line.end) (words_in-pieces line.pieces [] few refl)
 
-pub numbers-found : (line : Line) → words_in (rows_of_line line) ≡ positionals_of line
-numbers-found line =
-    words_in-numbers (line.between ++ positionals_of_end line.end) (with_choice line.choice (rows_before line))
-    ∙ ap (λ xs. xs ++ (line.between ++ positionals_of_end line.end))
-    (words_in-choice line.choice (rows_before line) (before-free line) ∙ words_in-numbers line.before [])
-
-pub quantum-found : (line : Line) → quantum_in (rows_of_line line) ≡ text_of_choice line.choice
-quantum-found line =
-    quantum_in-numbers (line.between ++ positionals_of_end line.end) (with_choice line.choice (rows_before line))
-    ∙ quantum_in-choice line.choice (rows_before line) (before-free line)
+pub quantum-found : (line : Line) → length (quanta_of line) ≤ 1 → quantum_in (rows_of_line line) ≡ text_of (quanta_of line)
+quantum-found line few =
+    quantum_in-numbers (positionals_of_end line.end) (fold with_piece [] line.pieces) ∙ quantum_in-pieces line.pieces [] few refl

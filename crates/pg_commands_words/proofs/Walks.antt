@@ -1,16 +1,20 @@
 -- The parser's walk over the words of a line, as far as each of them.
-use Rattle.std.proofs.Common.{◌≡◌, ◌∙◌, ◌&&◌, ◌||◌, ◌⊎◌, inl, inr, Bool, true, false, not, refl, sym, ap, subst, List, [], ◌∷◌, ◌++◌, codes, Option, Some, None}
-use Rattle.std.specs.List.{fold}
-use Rattle.clap.specs.Walk.{Row, Rule, Text, Waiting, Walk, has_row, idle, positional, option, settled, used, walked}
+use Rattle.std.proofs.Common.{◌≡◌, ◌∙◌, ◌||◌, ◌⊎◌, ◌≤◌, inl, inr, Bool, cond, true, false, not, refl, sym, ap, subst, List, [], ◌∷◌, ◌++◌, codes, length, Option, Some, None}
+use Rattle.std.specs.List.{fold, list_all}
+use Rattle.std.specs.Prelude.{flat_map}
+use Rattle.clap.specs.Walk.{Row, Rule, Text, Waiting, Walk, has_row, idle, more_values, option, settled, used, walked}
+use Rattle.clap.specs.Walk as clap
 use Rattle.clap.specs.Takes.{settle_passes, turn_passes, walk_passes}
 use Rattle.clap.specs.Simple.{Shape}
 use Rattle.clap.specs.declared.builder.action.ArgAction.TheVariants.{Set}
+use Rattle.clap.specs.declared.parser.matches.ValueSource.TheVariants.{CommandLine}
 use Rattle.clap.specs.declared.builder.value_parser.ValueParser.TheVariants as vp
 use Rattle.clap.proofs.OnLiterals.{clap_on_literals}
 use Rattle.std.specs.Str.{bytes_eq}
 use Rattle.std.proofs.lemmas.Slice.Eq.{bytes_eq-Decides}
-use Rattle.pg_commands_words.specs.Once.{Word, Choice, left_out, apart, joined, are_names, begins_with_hyphen, is_name, words_of_choice, words_of_end, positionals_of_end}
-use Rattle.pg_commands_words.specs.Lines.{is_plain_choice}
+use Rattle.pg_commands_words.specs.Pieces.{Piece, Word, begins_with_hyphen, is_name, is_plain, positional, positionals_of_end, quantum_apart, quantum_joined, words_of_end, words_of_piece}
+use Rattle.pg_commands_words.specs.Lines.{is_followed}
+use Rattle.pg_commands_words.proofs.Lines.{and-left, and-right, is-none, no-more, quanta}
 use Rattle.pg_commands_words.specs.Clap.{line_app, quantum_rule, words_rule}
 
 -- ---- a command as it is built; the name plays no part in the walk
@@ -55,7 +59,7 @@ pending_after (valued value) = Some (codes "quantum", value ∷ [])
 pending_after (numbered word) = Some (codes "words", word ∷ [])
 
 abbrev pub waiting_after : Last → Waiting
-waiting_after (numbered word) = positional
+waiting_after (numbered word) = clap.positional
 waiting_after _ = idle
 
 abbrev pub with_number : List Row → Word → List Row
@@ -169,7 +173,7 @@ end-reach None last rows can = reaches-end last rows false can
 end-reach (Some words) last rows can =
     reaches-more _ _ (codes "--") words _ (end-moves last rows) (end-passes last rows) (trailing-reach words last rows can)
 
--- ---- positionals before the option or `--`
+-- ---- words before `--`
 
 -- from each state that these words lead to, the words after them reach their rows
 abbrev pub FromEach : List Row → List Word → List Row → Type 0
@@ -205,28 +209,6 @@ name-passes : (last : Last) (rows : List Row) (word : Word) → (begins_with_hyp
     → turn_passes once_shape [] (state rows last false) word ≡ true
 name-passes last rows word (inl plain) can = plain-passes last rows word plain can
 name-passes last rows word (inr is) can = subst (λ w. turn_passes once_shape [] (state rows last false) w ≡ true) (sym is) (hyphen-passes last rows can)
-
-name-first : (word : Word) (words : List Word) → are_names (word ∷ words) ≡ true → (begins_with_hyphen word ≡ false) ⊎ (word ≡ codes "-")
-name-first word words plain = name-cases word (by (is_name word) plain)
-  where
-    by : (b : Bool) → (b && are_names words) ≡ true → b ≡ true
-    by true e = refl
-    by false e = absurd cc
-
-names-rest : (word : Word) (words : List Word) → are_names (word ∷ words) ≡ true → are_names words ≡ true
-names-rest word words plain = by (is_name word) plain
-  where
-    by : (b : Bool) → (b && are_names words) ≡ true → are_names words ≡ true
-    by true e = e
-    by false e = absurd cc
-
-pub plain-reach : (words rest : List Word) (start end : List Row) → are_names words ≡ true
-    → FromEach (fold with_number start words) rest end → FromEach start (words ++ rest) end
-plain-reach [] rest start end plain from = from
-plain-reach (word ∷ words) rest start end plain from = λ last rows can is.
-    reaches-more _ _ word (words ++ rest) end (name-moves last rows word (name-first word words plain))
-    (name-passes last rows word (name-first word words plain) can)
-    (plain-reach words rest (with_number start word) end (names-rest word words plain) from (numbered word) (with_last last rows) tt (ap (λ rs. with_number rs word) is))
 
 -- ---- the option
 
@@ -276,24 +258,66 @@ unfolding clap_on_literals
 value-passes rows [] plain = refl
 value-passes rows (x ∷ xs) plain = rw plain (rw plain refl)
 
--- the rows with the option among them
-abbrev pub with_choice : Choice → List Row → List Row
-with_choice left_out rows = rows
-with_choice (apart value) rows = with_quantum rows value
-with_choice (joined value) rows = with_quantum rows value
-
 not-true : (b : Bool) → not b ≡ true → b ≡ false
 not-true true e = sym e
 not-true false e = refl
 
-pub choice-reach : (choice : Choice) (start : List Row) (words : List Word) (end : List Row) → is_plain_choice choice ≡ true → has_quantum_row start ≡ false
-    → FromEach (with_choice choice start) words end → FromEach start (words_of_choice choice ++ words) end
-choice-reach left_out start words end plain first from = from
-choice-reach (apart value) start words end plain first from = λ last rows can is.
+-- ---- pieces
+
+-- the rows with a piece among them
+abbrev pub with_piece : List Row → Piece → List Row
+with_piece rows (positional word) = with_number rows word
+with_piece rows (quantum_apart value) = with_quantum rows value
+with_piece rows (quantum_joined value) = with_quantum rows value
+
+pub has_quantum_row-number : (rows : List Row) (word : Word) → has_quantum_row (with_number rows word) ≡ has_quantum_row rows
+has_quantum_row-number [] word = refl
+has_quantum_row-number (r ∷ rs) word = by (bytes_eq r.id (codes "words")) (has_quantum_row-number rs word)
+  where
+    by : (b : Bool) → has_quantum_row (with_number rs word) ≡ has_quantum_row rs
+        → has_quantum_row (cond b (more_values CommandLine (word ∷ []) r ++ rs) (r ∷ with_number rs word)) ≡ (bytes_eq r.id (codes "quantum") || has_quantum_row rs)
+    by true e = refl
+    by false e = ap (λ b. bytes_eq r.id (codes "quantum") || b) e
+
+-- a positional, and then others
+name-reach : (word : Word) (words : List Word) (start end : List Row) → is_name word ≡ true → FromEach (with_number start word) words end → FromEach start (word ∷ words) end
+name-reach word words start end plain from = λ last rows can is.
+    reaches-more _ _ word words end (name-moves last rows word (name-cases word plain)) (name-passes last rows word (name-cases word plain) can)
+    (from (numbered word) (with_last last rows) tt (ap (λ rs. with_number rs word) is))
+
+apart-reach : (value : Word) (words : List Word) (start end : List Row) → begins_with_hyphen value ≡ false → has_quantum_row start ≡ false
+    → FromEach (with_quantum start value) words end → FromEach start (codes "--quantum" ∷ value ∷ words) end
+apart-reach value words start end plain first from = λ last rows can is.
     reaches-more _ _ (codes "--quantum") (value ∷ words) end (apart-moves last rows) (apart-passes last rows can)
-    (reaches-more _ _ value words end (value-moves _ value (not-true _ plain)) (value-passes _ value (not-true _ plain))
+    (reaches-more _ _ value words end (value-moves _ value plain) (value-passes _ value plain)
     (from (valued value) (with_last last rows) (ap has_quantum_row is ∙ first) (ap (λ rs. with_quantum rs value) is)))
-choice-reach (joined value) start words end plain first from = λ last rows can is.
+
+joined-reach : (value : Word) (words : List Word) (start end : List Row) → has_quantum_row start ≡ false
+    → FromEach (with_quantum start value) words end → FromEach start ((codes "--quantum=" ++ value) ∷ words) end
+joined-reach value words start end first from = λ last rows can is.
     reaches-more _ _ (codes "--quantum=" ++ value) words end (joined-moves last rows value)
     (joined-passes last rows value can (ap has_quantum_row is ∙ first))
     (from begun (with_quantum (with_last last rows) value) tt (ap (λ rs. with_quantum rs value) is))
+
+-- pieces of which none is the option
+names-reach : (pieces : List Piece) (rest : List Word) (start end : List Row) → list_all is_plain pieces ≡ true → quanta pieces ≡ []
+    → FromEach (fold with_piece start pieces) rest end → FromEach start (flat_map words_of_piece pieces ++ rest) end
+names-reach [] rest start end plain none from = from
+names-reach (positional word ∷ pieces) rest start end plain none from =
+    name-reach word _ start end (and-left (is_name word) (list_all is_plain pieces) plain)
+    (names-reach pieces rest (with_number start word) end (and-right (is_name word) (list_all is_plain pieces) plain) none from)
+names-reach (quantum_apart value ∷ pieces) rest start end plain none from = absurd (is-none value (quanta pieces) none)
+names-reach (quantum_joined value ∷ pieces) rest start end plain none from = absurd (is-none value (quanta pieces) none)
+
+-- pieces of which one at most is the option
+pub pieces-reach : (pieces : List Piece) (rest : List Word) (start end : List Row) → list_all is_plain pieces ≡ true → list_all is_followed pieces ≡ true → length (quanta pieces) ≤ 1
+    → has_quantum_row start ≡ false → FromEach (fold with_piece start pieces) rest end → FromEach start (flat_map words_of_piece pieces ++ rest) end
+pieces-reach [] rest start end plain followed few first from = from
+pieces-reach (positional word ∷ pieces) rest start end plain followed few first from =
+    name-reach word _ start end (and-left (is_name word) (list_all is_plain pieces) plain)
+    (pieces-reach pieces rest (with_number start word) end (and-right (is_name word) (list_all is_plain pieces) plain) followed few (has_quantum_row-number start word ∙ first) from)
+pieces-reach (quantum_apart value ∷ pieces) rest start end plain followed few first from =
+    apart-reach value _ start end (not-true (begins_with_hyphen value) (and-left (not (begins_with_hyphen value)) (list_all is_followed pieces) followed)) first
+    (names-reach pieces rest (with_quantum start value) end plain (no-more value (quanta pieces) few) from)
+pieces-reach (quantum_joined value ∷ pieces) rest start end plain followed few first from =
+    joined-reach value _ start end first (names-reach pieces rest (with_quantum start value) end plain (no-more value (quanta pieces) few) from)

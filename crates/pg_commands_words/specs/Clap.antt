@@ -6,7 +6,8 @@ use Rattle.clap.specs.declared.builder.action.ArgAction.TheVariants.{Append}
 use Rattle.pg_num.specs.declared.limits.TheConstants.{NUMBERS_LIMIT}
 use Rattle.pg_commands_words.specs.declared.values.TheConstants.{DEFAULT_QUANTUM}
 use Rattle.pg_commands_words.specs.Commands.{Meaning, once, serve, show, trial, trial_of}
-use Rattle.pg_commands_words.specs.Once.{Word, number_of, quantum_of}
+use Rattle.pg_commands_words.specs.Once.{number_of, quantum_of}
+use Rattle.pg_commands_words.specs.Pieces.{Word}
 use Rattle.pg_commands_words.specs.declared.names.Name.{Name}
 use Rattle.pg_commands_words.specs.declared.names.Name.TheVariants.{Once, Serve, Show, Trial}
 

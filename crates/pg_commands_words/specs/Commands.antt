@@ -1,9 +1,11 @@
 -- The words of a command line, without the program's own name, for each command beside `once`, and which command words are.
-use Rattle.std.specs.Prelude.{◌≡◌, ℕ, ℤ, true, ◌&&◌, ◌≤◌, nat_le, if◌then◌else◌, List, [], ◌∷◌, ◌++◌, length, map, codes, string_bytes, Option, Some, None}
+use Rattle.std.specs.Prelude.{◌≡◌, ℕ, ℤ, true, ◌&&◌, ◌≤◌, nat_le, if◌then◌else◌, List, [], ◌∷◌, length, map, codes, string_bytes, Option, Some, None}
+use Rattle.std.specs.List.{list_all}
 use Rattle.pg_num.specs.Decimal.{are_digits, natural_of}
 use Rattle.pg_num.specs.declared.limits.TheConstants.{NUMBERS_LIMIT, QUANTUM_LIMIT}
 use Rattle.pg_session_trial.specs.declared.line.TheConstants.{TRIAL_LIMIT}
-use Rattle.pg_commands_words.specs.Once.{IsOnce, Word, Line, left_out, are_names, number_of, positionals_of, quantum_of_choice, words_of}
+use Rattle.pg_commands_words.specs.Once.{IsOnce, number_of, quantum_of_values}
+use Rattle.pg_commands_words.specs.Pieces.{Line, Word, is_plain, positionals_of, quanta_of, words_of}
 use Rattle.pg_commands_words.specs.declared.commands.Command.{Command}
 use Rattle.pg_commands_words.specs.declared.commands.Command.TheVariants.{Once, Serve, Show, Trial}
 
@@ -15,9 +17,9 @@ trial_of word = if are_digits word && nat_le (natural_of word) TRIAL_LIMIT then 
 pub record IsServe (words : List Word) (file : Word) (quantum : ℕ) : Type 0 where
   pub line : Line
   pub spelled : words ≡ codes "serve" ∷ words_of line
-  -- before `--`, a word other than `-` that begins with `-` is the option
-  pub plain : are_names (line.before ++ line.between) ≡ true
-  pub has_quantum : quantum_of_choice line.choice ≡ Some quantum
+  -- before `--`, a word other than `-` that begins with `-` is the option, or its value
+  pub plain : list_all is_plain line.pieces ≡ true
+  pub has_quantum : quantum_of_values (quanta_of line) ≡ Some quantum
   pub has_file : positionals_of line ≡ file ∷ []
 
 -- the words are `show`, then a line with this file, this quantum and these numbers, of which there are not too many
@@ -25,8 +27,8 @@ pub record IsShow (words : List Word) (file : Word) (quantum : ℕ) (numbers : L
   pub line : Line
   pub texts : List Word
   pub spelled : words ≡ codes "show" ∷ words_of line
-  pub plain : are_names (line.before ++ line.between) ≡ true
-  pub has_quantum : quantum_of_choice line.choice ≡ Some quantum
+  pub plain : list_all is_plain line.pieces ≡ true
+  pub has_quantum : quantum_of_values (quanta_of line) ≡ Some quantum
   pub has_file : positionals_of line ≡ file ∷ texts
   pub has_numbers : map number_of texts ≡ map Some numbers
   pub few : length numbers ≤ NUMBERS_LIMIT
@@ -36,8 +38,8 @@ pub record IsTrial (words : List Word) (number : ℕ) : Type 0 where
   pub line : Line
   pub text : Word
   pub spelled : words ≡ codes "trial" ∷ words_of line
-  pub plain : are_names (line.before ++ line.between) ≡ true
-  pub no_option : line.choice ≡ left_out
+  pub plain : list_all is_plain line.pieces ≡ true
+  pub no_option : quanta_of line ≡ []
   pub has_text : positionals_of line ≡ text ∷ []
   pub has_number : trial_of text ≡ Some number
 

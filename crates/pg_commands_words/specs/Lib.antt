@@ -2,3 +2,4 @@ pub mod Clap
 pub mod Commands
 pub mod Lines
 pub mod Once
+pub mod Pieces

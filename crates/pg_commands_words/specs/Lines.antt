@@ -1,40 +1,53 @@
 -- Where in a command line each word stands, as a test of the words alone.
-use Rattle.std.specs.Prelude.{◌≡◌, Bool, true, not, if◌then◌else◌, List, [], ◌∷◌, ◌++◌, codes, Option, Some, None}
-use Rattle.std.specs.List.{starts_with}
+use Rattle.std.specs.Prelude.{◌≡◌, ◌≤◌, Bool, true, false, not, if◌then◌else◌, List, [], ◌∷◌, codes, length, Option, Some, None}
+use Rattle.std.specs.List.{list_all, starts_with}
 use Rattle.std.specs.Str.{bytes_eq}
 use Rattle.std.specs.Prelude.{nat_eq}
-use Rattle.pg_commands_words.specs.Once.{Word, Choice, apart, Line, are_names, begins_with_hyphen, is_name, words_of}
+use Rattle.pg_commands_words.specs.Pieces.{Line, Piece, Word, begins_with_hyphen, is_name, is_plain, quanta_of, quantum_apart, words_of}
 use Rattle.pg_commands_words.specs.declared.names.Name.{Name}
 use Rattle.pg_commands_words.specs.declared.names.Name.TheVariants.{Once, Serve, Show, Trial}
-
--- the words from the first one on that begins with `-` and isn't `-`
-abbrev pub after_plain : List Word → List Word
-after_plain [] = []
-after_plain (word ∷ words) = if is_name word then after_plain words else word ∷ words
+use Rattle.pg_commands_words.specs.declared.positions.Seen.{Seen}
+use Rattle.pg_commands_words.specs.declared.positions.Seen.TheVariants.{Nothing, OptionWord, Value}
 
 abbrev pub is_joined : Word → Bool
 is_joined word = starts_with nat_eq word (codes "--quantum=")
 
--- the words after a value that stands apart from its option
-abbrev pub after_value : Word → List Word → List Word
-after_value option [] = option ∷ []
-after_value option (value ∷ words) = if begins_with_hyphen value then option ∷ value ∷ words else words
+-- what was seen of the option with a word that stands where none was seen; none where the word may not stand there
+abbrev pub seen_first : Word → Option Seen
+seen_first word =
+    if is_name word then Some Nothing
+    else if is_joined word then Some Value
+    else if bytes_eq word (codes "--quantum") then Some OptionWord
+    else None
 
--- the words after the option, if it stands first
-abbrev pub after_choice : List Word → List Word
-after_choice [] = []
-after_choice (word ∷ words) =
-    if is_joined word then words
-    else if bytes_eq word (codes "--quantum") then after_value word words
-    else word ∷ words
+-- what was seen of the option with one word more, where so much was seen before it
+abbrev pub seen_after : Seen → Word → Option Seen
+seen_after Nothing word = seen_first word
+seen_after OptionWord word = if begins_with_hyphen word then None else Some Value
+seen_after Value word = if is_name word then Some Value else None
 
-abbrev pub is_end : List Word → Bool
-is_end [] = true
-is_end (word ∷ words) = bytes_eq word (codes "--")
+-- the word ends the pieces: it is `--`, and no value
+abbrev pub ends_pieces : Seen → Word → Bool
+ends_pieces OptionWord word = false
+ends_pieces _ word = bytes_eq word (codes "--")
+
+-- no value is missing at the end of the words
+abbrev pub may_end : Seen → Bool
+may_end OptionWord = false
+may_end _ = true
+
+abbrev pub goes_on : (Seen → Bool) → Option Seen → Bool
+goes_on more None = false
+goes_on more (Some seen) = more seen
+
+-- words that stand where so much was seen of the option
+abbrev pub is_line_from : Seen → List Word → Bool
+is_line_from seen [] = may_end seen
+is_line_from seen (word ∷ words) = if ends_pieces seen word then true else goes_on (λ next. is_line_from next words) (seen_after seen word)
 
 -- each word before `--` that begins with `-` is the option, which stands there at most once and has its value
 abbrev pub is_line : List Word → Bool
-is_line words = is_end (after_plain (after_choice (after_plain words)))
+is_line words = is_line_from Nothing words
 
 -- a command's word
 abbrev pub name_word : Name → Word
@@ -57,13 +70,15 @@ abbrev pub name_of_line : List Word → Option Name
 name_of_line [] = None
 name_of_line (word ∷ words) = if is_line words then named word else None
 
-abbrev pub is_plain_choice : Choice → Bool
-is_plain_choice (apart value) = not (begins_with_hyphen value)
-is_plain_choice _ = true
+-- a value that stands apart doesn't begin with `-`
+abbrev pub is_followed : Piece → Bool
+is_followed (quantum_apart value) = not (begins_with_hyphen value)
+is_followed _ = true
 
--- a line whose option is followed by a value
+-- a line whose option stands there at most once, and is followed by a value
 pub record IsLine (words : List Word) : Type 0 where
   pub line : Line
   pub spelled : words ≡ words_of line
-  pub plain : are_names (line.before ++ line.between) ≡ true
-  pub followed : is_plain_choice line.choice ≡ true
+  pub plain : list_all is_plain line.pieces ≡ true
+  pub followed : list_all is_followed line.pieces ≡ true
+  pub once : length (quanta_of line) ≤ 1

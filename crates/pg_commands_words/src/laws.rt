@@ -2,7 +2,7 @@
 ghost use Rattle.std.specs.Prelude.{◌≡◌, ℕ, ℤ, List, [], ◌∷◌, codes};
 ghost use Rattle.pg_num.specs.declared.limits.TheConstants.{NUMBERS_LIMIT, QUANTUM_LIMIT};
 ghost use Rattle.pg_commands_words.specs.Commands.{IsWithin, Meaning, Means, once};
-ghost use Rattle.pg_commands_words.specs.Once.{Word};
+ghost use Rattle.pg_commands_words.specs.Pieces.{Word};
 ghost use Rattle.pg_commands_words.specs.declared.values.TheConstants.{DEFAULT_QUANTUM};
 
 /// Words are one command with its values at most.

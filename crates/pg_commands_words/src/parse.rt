@@ -4,7 +4,7 @@ ghost use Rattle.std.specs.Option.{option_map};
 ghost use Rattle.clap.specs.Words.{found_of, rows_of, subcommand_rows_of};
 ghost use Rattle.pg_commands_words.specs.Clap.{HasValues, Reads, ReadsNone, Says, SaysNone, SaysOf, words_in, quantum_in, quantum_of_text};
 ghost use Rattle.pg_commands_words.specs.Commands.{IsCommand, IsWithin, NoCommand, meaning_of, serve, show, trial};
-ghost use Rattle.pg_commands_words.specs.Once.{Word};
+ghost use Rattle.pg_commands_words.specs.Pieces.{Word};
 
 use crate::commands::{Command, Once, Serve, Show};
 use crate::matches::matches;

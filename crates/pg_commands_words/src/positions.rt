@@ -1,9 +1,20 @@
 //! Where each word of a command line stands: before the parser reads the words, a test that it refuses none of them.
 ghost use Rattle.std.specs.Prelude.{◌≡◌, map, string_bytes};
-ghost use Rattle.pg_commands_words.specs.Once.{begins_with_hyphen, is_name};
-ghost use Rattle.pg_commands_words.specs.Lines.{after_plain, after_choice, is_end, is_line, is_joined, name_of_line};
+ghost use Rattle.pg_commands_words.specs.Pieces.{begins_with_hyphen, is_name};
+ghost use Rattle.pg_commands_words.specs.Lines.{ends_pieces, is_line, may_end, name_of_line, seen_after, seen_first};
 
 use crate::names::{Name, named};
+
+/// How much of the option `--quantum` was seen.
+#[derive(Clone, Copy, Debug, PartialEq, Eq)]
+pub(crate) enum Seen {
+    /// Nothing of it.
+    Nothing,
+    /// Its word, whose value is the next word.
+    OptionWord,
+    /// All of it.
+    Value,
+}
 
 /// The command whose word the words begin with, if a line stands behind it.
 pub(crate) fn name_of_line(words: &[String]) -> Option<Name>
@@ -20,40 +31,65 @@ pub(crate) fn name_of_line(words: &[String]) -> Option<Name>
 fn is_a_line(words: &[String]) -> bool
     ensures { result ≡ is_line (map string_bytes words.now) }
 {
-    is_at_end(without_positionals(without_option(without_positionals(words))))
-}
-
-// The words from the first one on that begins with `-` and isn't `-`.
-fn without_positionals(words: &[String]) -> &[String]
-    ensures { map string_bytes result.now ≡ after_plain (map string_bytes words.now) }
-{
+    let mut seen = Seen::Nothing;
     'words: for place in 0..words.len() {
-        if !is_name(words[place].as_bytes()) {
-            return &words[place..];
+        let word = words[place].as_bytes();
+        if ends_pieces(seen, word) {
+            return true;
+        }
+        match seen_after(seen, word) {
+            Some(next) => seen = next,
+            None => return false,
         }
     }
-    &[]
+    may_end(seen)
 }
 
-// The words after the option, if it stands first and has its value.
-fn without_option(words: &[String]) -> &[String]
-    ensures { map string_bytes result.now ≡ after_choice (map string_bytes words.now) }
+// Whether a word ends the pieces: it is `--`, and no value.
+fn ends_pieces(seen: Seen, word: &[u8]) -> bool
+    ensures { result ≡ ends_pieces seen word.now }
 {
-    match words {
-        [option, rest @ ..] if option.as_bytes().starts_with(b"--quantum=") => rest,
-        [option, value, rest @ ..]
-            if option.as_str() == "--quantum" && !begins_with_hyphen(value.as_bytes()) => rest,
-        words => words,
+    match seen {
+        Seen::OptionWord => false,
+        Seen::Nothing | Seen::Value => word == b"--".as_slice(),
     }
 }
 
-// Whether the words end here, or those after `--` follow.
-fn is_at_end(words: &[String]) -> bool
-    ensures { result ≡ is_end (map string_bytes words.now) }
+// Whether the words may end here: no value is missing.
+fn may_end(seen: Seen) -> bool
+    ensures { result ≡ may_end seen }
 {
-    match words {
-        [first, ..] => first.as_str() == "--",
-        [] => true,
+    match seen {
+        Seen::OptionWord => false,
+        Seen::Nothing | Seen::Value => true,
+    }
+}
+
+// What was seen of the option with one word more, and none where the word may not stand there.
+fn seen_after(seen: Seen, word: &[u8]) -> Option<Seen>
+    ensures { result ≡ seen_after seen word.now }
+{
+    match seen {
+        Seen::Nothing => seen_first(word),
+        Seen::OptionWord if begins_with_hyphen(word) => None,
+        Seen::OptionWord => Some(Seen::Value),
+        Seen::Value if is_name(word) => Some(Seen::Value),
+        Seen::Value => None,
+    }
+}
+
+// The same where nothing of the option was seen before the word.
+fn seen_first(word: &[u8]) -> Option<Seen>
+    ensures { result ≡ seen_first word.now }
+{
+    if is_name(word) {
+        Some(Seen::Nothing)
+    } else if word.starts_with(b"--quantum=") {
+        Some(Seen::Value)
+    } else if word == b"--quantum".as_slice() {
+        Some(Seen::OptionWord)
+    } else {
+        None
     }
 }
 

@@ -1,5 +1,5 @@
 -- A session, step by step.
-use Rattle.std.proofs.Common.{◌≡◌, Result, Ok, Err, OnErr, ℕ, ℤ, zero, suc, ◌+◌, ◌<◌, ◌≤◌, Bool, true, false, cond, List, [], ◌∷◌, ◌++◌, length, take, map}
+use Rattle.std.proofs.Common.{◌≡◌, Result, Ok, Err, OnErr, ℕ, ℤ, zero, suc, ◌+◌, ◌-◌, ◌^◌, ◌<◌, ◌≤◌, ◌⊎◌, inl, inr, Bool, true, false, cond, List, [], ◌∷◌, ◌++◌, length, take, map}
 use Rattle.std.proofs.Common.{refl, sym, ap, ◌∙◌, subst, arith, Option, Some, None, length-append, append-nil}
 use Rattle.std.specs.Prelude.{◌==◌, flat_map, nat_le}
 use Rattle.std.specs.Io.KnownBytes.{Appends}
@@ -7,11 +7,13 @@ use Rattle.std.proofs.Math.Seq.{take-append-add, take-append_seam}
 use Rattle.std.proofs.lemmas.Bool.{leb-true, leb-false}
 use Rattle.std.proofs.lemmas.Grind.{flat_map-append}
 use Rattle.std.proofs.lemmas.List.{map-append, take-append-le}
+use Rattle.std.proofs.lemmas.List.Sums.{sum_by-append}
 use Rattle.pg_io.specs.Streams.{AppendsFront}
 use Rattle.pg_io.proofs.Known.{appends-append}
 use Rattle.pg_cache.specs.Kept.{Kept}
 use Rattle.pg_num.specs.declared.limits.TheConstants.{LINE_LIMIT}
 use Rattle.pg_session.specs.Lines.{begun_behind, ended_behind, input_of}
+use Rattle.pg_session.specs.Counts.{AreCounted, Counts, RoseBy, Told, is_of_recording, reused_turns}
 use Rattle.pg_session.specs.Progress.{Answered, CutShort, IsReplyTo, begun_after, ended_after, inputs_after, keep}
 use Rattle.pg_session.specs.Sessions.{Answer, AnswersAll, AnswersLine, Runs, answer_text}
 
@@ -19,6 +21,30 @@ use Rattle.pg_session.specs.Sessions.{Answer, AnswersAll, AnswersLine, Runs, ans
 pub on_any_err : {T E P : Type 0} (r : Result T E) → P → OnErr r P
 on_any_err (Ok a) p = tt
 on_any_err (Err e) p = p
+
+-- ---- counts
+
+rose_none : (n : ℕ) → RoseBy 0 n n
+rose_none n = record { stays = omega arith; rose = inl (omega arith) }
+
+pub rose_then : (i j a b c : ℕ) → RoseBy i a b → RoseBy j b c → RoseBy (i + j) a c
+rose_then i j a b c h g = record { stays = omega (arith, h.stays, g.stays); rose = go h.rose g.rose }
+  where
+    go : (a + i ≤ b) ⊎ (2 ^ 64 - 1 ≤ b) → (b + j ≤ c) ⊎ (2 ^ 64 - 1 ≤ c) → (a + (i + j) ≤ c) ⊎ (2 ^ 64 - 1 ≤ c)
+    go k (inr m) = inr m
+    go (inl k) (inl m) = inl (omega (arith, k, m))
+    go (inr k) (inl m) = inr (omega (arith, k, g.stays))
+
+pub counted_none : (counts : Counts) → AreCounted [] counts counts
+counted_none counts = record { turns_rose = rose_none counts.turns; recordings_rose = rose_none counts.recordings }
+
+-- what is counted of answers, and then of others
+pub counted_then : (xs ys : List Answer) (a b c : Counts) → AreCounted xs a b → AreCounted ys b c → AreCounted (xs ++ ys) a c
+counted_then xs ys a b c h g = record {
+  turns_rose = subst (λ n. RoseBy n a.turns c.turns) (sym (sum_by-append reused_turns xs ys)) (rose_then _ _ a.turns b.turns c.turns h.turns_rose g.turns_rose);
+  recordings_rose = subst (λ n. RoseBy n a.recordings c.recordings) (sym (sum_by-append (λ (x : Answer). cond (is_of_recording x.kind) 1 0) xs ys))
+      (rose_then _ _ a.recordings b.recordings c.recordings h.recordings_rose g.recordings_rose);
+}
 
 module _ {M : Type 0} (admits : M → List ℤ → Bool) (runs : Runs M) where
   -- lines, and then others
@@ -46,19 +72,21 @@ module _ {M : Type 0} (admits : M → List ℤ → Bool) (runs : Runs M) where
   one-text : (a : Answer) → flat_map answer_text (a ∷ []) ≡ answer_text a
   one-text a = append-nil (answer_text a)
 
-  pub answered_none : (kept : Kept M) (told : Option (List ℕ)) → Answered admits runs kept [] kept told told
-  answered_none kept told = record { answers = []; session = (refl, refl); written = appends_none told }
+  pub answered_none : (kept : Kept M) (told : Told) → Answered admits runs kept [] kept told told
+  answered_none kept told = record { answers = []; session = (refl, refl); written = appends_none told.taken; counted = counted_none told.counts }
 
-  pub answered_one : (kept : Kept M) (x : Option (List ℤ)) (a : Answer) (next : Kept M) (old new : Option (List ℕ)) → AnswersLine admits runs kept x a next
-      → Appends old new (answer_text a) → Answered admits runs kept (x ∷ []) next old new
-  answered_one kept x a next old new h w = record { answers = a ∷ []; session = answers_one kept x a next h; written = subst (Appends old new) (sym (one-text a)) w }
+  pub answered_one : (kept : Kept M) (x : Option (List ℤ)) (a : Answer) (next : Kept M) (old new : Told) → AnswersLine admits runs kept x a next
+      → Appends old.taken new.taken (answer_text a) → AreCounted (a ∷ []) old.counts new.counts → Answered admits runs kept (x ∷ []) next old new
+  answered_one kept x a next old new h w n =
+      record { answers = a ∷ []; session = answers_one kept x a next h; written = subst (Appends old.taken new.taken) (sym (one-text a)) w; counted = n }
 
-  pub answered_then : (kept mid last : Kept M) (xs ys : List (Option (List ℤ))) (a b c : Option (List ℕ))
+  pub answered_then : (kept mid last : Kept M) (xs ys : List (Option (List ℤ))) (a b c : Told)
       → Answered admits runs kept xs mid a b → Answered admits runs mid ys last b c → Answered admits runs kept (xs ++ ys) last a c
   answered_then kept mid last xs ys a b c h g = record {
     answers = h.answers ++ g.answers;
     session = answers_append kept xs ys h.answers g.answers mid last h.session g.session;
-    written = subst (Appends a c) (sym (flat_map-append answer_text h.answers g.answers)) (appends-append a b c _ _ h.written g.written);
+    written = subst (Appends a.taken c.taken) (sym (flat_map-append answer_text h.answers g.answers)) (appends-append a.taken b.taken c.taken _ _ h.written g.written);
+    counted = counted_then h.answers g.answers a.counts b.counts c.counts h.counted g.counted;
   }
 
   pub cut_none : (kept : Kept M) (xs : List (Option (List ℤ))) (told : Option (List ℕ)) → CutShort admits runs kept xs told told
@@ -75,8 +103,8 @@ module _ {M : Type 0} (admits : M → List ℤ → Bool) (runs : Runs M) where
     written = subst (AppendsFront old new) (sym (one-text a)) w;
   }
 
-  pub cut_then : (kept mid : Kept M) (xs ys : List (Option (List ℤ))) (a b c : Option (List ℕ))
-      → Answered admits runs kept xs mid a b → CutShort admits runs mid ys b c → CutShort admits runs kept (xs ++ ys) a c
+  pub cut_then : (kept mid : Kept M) (xs ys : List (Option (List ℤ))) (a b : Told) (c : Option (List ℕ))
+      → Answered admits runs kept xs mid a b → CutShort admits runs mid ys b.taken c → CutShort admits runs kept (xs ++ ys) a.taken c
   cut_then kept mid xs ys a b c h g = record {
     count = length xs + g.count;
     within = omega (arith, g.within, length-append xs ys);
@@ -86,9 +114,9 @@ module _ {M : Type 0} (admits : M → List ℤ → Bool) (runs : Runs M) where
         (answers_append kept xs (take g.count ys) h.answers g.answers mid g.next h.session g.session);
     written = (
       length (flat_map answer_text h.answers) + g.written.0,
-      subst (Appends a c) (sym (ap (take (length (flat_map answer_text h.answers) + g.written.0)) (flat_map-append answer_text h.answers g.answers)
+      subst (Appends a.taken c) (sym (ap (take (length (flat_map answer_text h.answers) + g.written.0)) (flat_map-append answer_text h.answers g.answers)
           ∙ take-append-add (flat_map answer_text h.answers) (flat_map answer_text g.answers) g.written.0))
-          (appends-append a b c _ _ h.written g.written.1),
+          (appends-append a.taken b.taken c _ _ h.written g.written.1),
     );
   }
 
@@ -103,15 +131,15 @@ module _ {M : Type 0} (admits : M → List ℤ → Bool) (runs : Runs M) where
   }
 
   -- the reply to a line was written, or a front of it
-  pub answered_reply : (kept : Kept M) (line seen : List ℕ) (next : Kept M) (text sent : List ℕ) (old new : Option (List ℕ)) → seen ≡ line → sent ≡ text
-      → IsReplyTo admits runs kept seen next text → Appends old new sent → Answered admits runs kept (input_of line ∷ []) next old new
+  pub answered_reply : (kept : Kept M) (line seen : List ℕ) (next : Kept M) (text sent : List ℕ) (old new : Told) → seen ≡ line → sent ≡ text
+      → IsReplyTo admits runs kept seen next text old.counts new.counts → Appends old.taken new.taken sent → Answered admits runs kept (input_of line ∷ []) next old new
   answered_reply kept line seen next text sent old new is same r w =
       answered_one kept (input_of line) r.answer next old new (subst (λ l. AnswersLine admits runs kept (input_of l) r.answer next) is r.answered)
-      (subst (Appends old new) (same ∙ r.whole) w)
+      (subst (Appends old.taken new.taken) (same ∙ r.whole) w) r.counted
 
-  pub cut_reply : (kept : Kept M) (line seen : List ℕ) (next : Kept M) (text sent : List ℕ) (old new : Option (List ℕ)) → seen ≡ line → sent ≡ text
-      → IsReplyTo admits runs kept seen next text → AppendsFront old new sent → CutShort admits runs kept (input_of line ∷ []) old new
-  cut_reply kept line seen next text sent old new is same r w =
+  pub cut_reply : (kept : Kept M) (line seen : List ℕ) (next : Kept M) (text sent : List ℕ) (old new : Option (List ℕ)) (before after : Counts) → seen ≡ line → sent ≡ text
+      → IsReplyTo admits runs kept seen next text before after → AppendsFront old new sent → CutShort admits runs kept (input_of line ∷ []) old new
+  cut_reply kept line seen next text sent old new before after is same r w =
       cut_one kept (input_of line) r.answer next old new (subst (λ l. AnswersLine admits runs kept (input_of l) r.answer next) is r.answered)
       (subst (AppendsFront old new) (same ∙ r.whole) w)
 

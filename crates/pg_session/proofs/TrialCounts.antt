@@ -17,9 +17,11 @@ use Rattle.pg_session_trial.specs.declared.line.TheConstants.{TRIAL_LINES}
 use Rattle.pg_session.specs.Lines.{ended_behind, number_of}
 use Rattle.pg_session.specs.Sessions.{Answer, Answers, AnswersAll, AnswersLine, Runs, begin}
 use Rattle.pg_session.specs.Trials.{IsTrialText, counts_text, is_recorded, is_refused, is_reused, numbers_printed, sum_from, turns_of}
+use Rattle.pg_session.specs.Counts.{AreCounted, Counts, TrialCounted}
 use Rattle.pg_session.specs.Progress.{Stands}
 use Rattle.pg_session.proofs.KeptEntries.{grows_line, stands_begin, stands_line}
 use Rattle.pg_session.proofs.LineNumbers.{range_more, range_none}
+use Rattle.pg_session.proofs.SessionSteps.{counted_none, counted_then}
 
 -- ---- the numbers that were printed
 
@@ -109,7 +111,7 @@ inputs-push n i =
     ∙ map-append Some (lines_from n 0 i) (trial_line n i ∷ [])
 
 -- the answers to the first `i` lines of a trial, and the counts of them
-pub record Tallied {M : Type 0} (admits : M → List ℤ → Bool) (runs : Runs M) (number i : ℕ) (kept : Kept M) (recorded reused refused turns sum : ℕ) : Type 0 where
+pub record Tallied {M : Type 0} (admits : M → List ℤ → Bool) (runs : Runs M) (number i : ℕ) (kept : Kept M) (recorded reused refused turns sum : ℕ) (before now : Counts) : Type 0 where
   pub answers : List Answer
   pub session : AnswersAll admits runs begin (map Some (lines_from number 0 i)) answers kept
   pub lines : length answers ≡ i
@@ -121,6 +123,7 @@ pub record Tallied {M : Type 0} (admits : M → List ℤ → Bool) (runs : Runs 
   pub few_turns : turns ≤ i * 2 ^ 32
   pub few_kept : kept.inserted ≤ i
   pub stands : Stands runs kept
+  pub counted : AreCounted answers before now
 
 -- a trial's lines have few numbers
 length-numbers : (first count : ℕ) → length (numbers_from first count) ≡ count
@@ -134,8 +137,8 @@ pub few_numbers : (n i : ℕ) → length (trial_line n i) ≤ NUMBERS_LIMIT
 few_numbers n i = subst (λ k. k ≤ NUMBERS_LIMIT) (sym (length-numbers n ((37 * i + n) % 500 + 1))) (rest-few (37 * i + n))
 
 module _ {M : Type 0} (admits : M → List ℤ → Bool) (runs : Runs M) (number : ℕ) where
-  pub tallied_first : Tallied admits runs number 0 begin 0 0 0 0 0
-  tallied_first = record {
+  pub tallied_first : (before : Counts) → Tallied admits runs number 0 begin 0 0 0 0 0 before before
+  tallied_first before = record {
     answers = [];
     session = (refl, refl);
     lines = refl;
@@ -147,13 +150,14 @@ module _ {M : Type 0} (admits : M → List ℤ → Bool) (runs : Runs M) (number
     few_turns = omega arith;
     few_kept = omega arith;
     stands = stands_begin runs;
+    counted = counted_none before;
   }
 
-  pub tallied_more : (i : ℕ) (kept next : Kept M) (a : Answer) (r1 r2 r3 r4 r5 n1 n2 n3 n4 n5 : ℕ) → Answers admits runs kept (trial_line number i) a next
+  pub tallied_more : (i : ℕ) (kept next : Kept M) (a : Answer) (r1 r2 r3 r4 r5 n1 n2 n3 n4 n5 : ℕ) (before mid now : Counts) → Answers admits runs kept (trial_line number i) a next
       → n1 ≡ r1 + count_by is_recorded (a.kind ∷ []) → n2 ≡ r2 + count_by is_reused (a.kind ∷ []) → n3 ≡ r3 + count_by is_refused (a.kind ∷ [])
       → n4 ≡ r4 + turns_of a.end → n4 < r4 + 2 ^ 32 → n5 ≡ sum_from r5 (numbers_printed a.output)
-      → Tallied admits runs number i kept r1 r2 r3 r4 r5 → Tallied admits runs number (i + 1) next n1 n2 n3 n4 n5
-  tallied_more i kept next a r1 r2 r3 r4 r5 n1 n2 n3 n4 n5 h e1 e2 e3 e4 few e5 t = record {
+      → AreCounted (a ∷ []) mid now → Tallied admits runs number i kept r1 r2 r3 r4 r5 before mid → Tallied admits runs number (i + 1) next n1 n2 n3 n4 n5 before now
+  tallied_more i kept next a r1 r2 r3 r4 r5 n1 n2 n3 n4 n5 before mid now h e1 e2 e3 e4 few e5 n t = record {
     answers = t.answers ++ a ∷ [];
     session = subst (λ l. AnswersAll admits runs begin l (t.answers ++ a ∷ []) next) (sym (inputs-push number i))
         (push-answer admits runs begin kept next (map Some (lines_from number 0 i)) (Some (trial_line number i)) t.answers a t.session h);
@@ -170,21 +174,25 @@ module _ {M : Type 0} (admits : M → List ℤ → Bool) (runs : Runs M) (number
     few_turns = let b = t.few_turns in omega (arith, b, few);
     few_kept = let b = t.few_kept in let g = grows_line admits runs kept next (Some (trial_line number i)) a h in omega (arith, b, g);
     stands = stands_line admits runs kept next (Some (trial_line number i)) a h t.stands;
+    counted = counted_then t.answers (a ∷ []) before mid now t.counted n;
   }
 
-  pub tallied_all : (i : ℕ) (kept : Kept M) (recorded reused refused turns sum : ℕ) (text : List ℕ) → i ≡ TRIAL_LINES → Tallied admits runs number i kept recorded reused refused turns sum
-      → text ≡ counts_text number recorded reused refused turns sum → IsTrialText admits runs number text
-  tallied_all i kept recorded reused refused turns sum text e t is = record {
-    answers = t.answers;
-    kept = kept;
-    session = subst (λ n. AnswersAll admits runs begin (map Some (lines_from number 0 n)) t.answers kept) e t.session;
-    whole = is ∙ ap (λ n. counts_text number n reused refused turns sum) t.recorded_is
-        ∙ ap (λ n. counts_text number (count_by (λ (a : Answer). is_recorded a.kind) t.answers) n refused turns sum) t.reused_is
-        ∙ ap (λ n. counts_text number (count_by (λ (a : Answer). is_recorded a.kind) t.answers) (count_by (λ (a : Answer). is_reused a.kind) t.answers) n turns sum) t.refused_is
-        ∙ ap (λ n. counts_text number (count_by (λ (a : Answer). is_recorded a.kind) t.answers) (count_by (λ (a : Answer). is_reused a.kind) t.answers)
-        (count_by (λ (a : Answer). is_refused a.kind) t.answers) n sum) t.turns_is
-        ∙ ap (λ n. counts_text number (count_by (λ (a : Answer). is_recorded a.kind) t.answers) (count_by (λ (a : Answer). is_reused a.kind) t.answers)
-        (count_by (λ (a : Answer). is_refused a.kind) t.answers) (sum_by (λ (a : Answer). turns_of a.end) t.answers) n) t.sum_is;
+  pub tallied_all : (i : ℕ) (kept : Kept M) (recorded reused refused turns sum : ℕ) (text : List ℕ) (before now : Counts) → i ≡ TRIAL_LINES
+      → Tallied admits runs number i kept recorded reused refused turns sum before now → text ≡ counts_text number recorded reused refused turns sum → TrialCounted admits runs number before now text
+  tallied_all i kept recorded reused refused turns sum text before now e t is = record {
+    tells = record {
+      answers = t.answers;
+      kept = kept;
+      session = subst (λ n. AnswersAll admits runs begin (map Some (lines_from number 0 n)) t.answers kept) e t.session;
+      whole = is ∙ ap (λ n. counts_text number n reused refused turns sum) t.recorded_is
+          ∙ ap (λ n. counts_text number (count_by (λ (a : Answer). is_recorded a.kind) t.answers) n refused turns sum) t.reused_is
+          ∙ ap (λ n. counts_text number (count_by (λ (a : Answer). is_recorded a.kind) t.answers) (count_by (λ (a : Answer). is_reused a.kind) t.answers) n turns sum) t.refused_is
+          ∙ ap (λ n. counts_text number (count_by (λ (a : Answer). is_recorded a.kind) t.answers) (count_by (λ (a : Answer). is_reused a.kind) t.answers)
+          (count_by (λ (a : Answer). is_refused a.kind) t.answers) n sum) t.turns_is
+          ∙ ap (λ n. counts_text number (count_by (λ (a : Answer). is_recorded a.kind) t.answers) (count_by (λ (a : Answer). is_reused a.kind) t.answers)
+          (count_by (λ (a : Answer). is_refused a.kind) t.answers) (sum_by (λ (a : Answer). turns_of a.end) t.answers) n) t.sum_is;
+    };
+    counted = t.counted;
   }
 
 -- ---- the lines of a trial's text

@@ -6,4 +6,5 @@ pub mod Progress
 pub mod Texts
 pub mod Faults
 pub mod Trials
+pub mod Counts
 pub mod Shows

@@ -1,7 +1,8 @@
 //! What is answered to an input, and what is kept then.
-ghost use Rattle.std.specs.Prelude.{◌≡◌, ◌≤◌, ◌<◌, ◌-◌, ◌^◌, length, Some, None, IfOk, OnErr};
+ghost use Rattle.std.specs.Prelude.{◌≡◌, ◌≤◌, ◌<◌, ◌-◌, ◌^◌, [], ◌∷◌, length, Some, None, IfOk, OnErr};
 ghost use Rattle.pg_num.specs.declared.limits.TheConstants.{NUMBERS_LIMIT};
 ghost use Rattle.pg_session_texts.specs.Replies.{HasEnd};
+ghost use Rattle.pg_session.specs.Counts.{AreCounted};
 ghost use Rattle.pg_session.specs.Progress.{Stands};
 ghost use Rattle.pg_session.specs.Sessions.{Answers, IsExact, admits_by, found};
 ghost use Rattle.pg_session.specs.Views.{answer_of};
@@ -32,6 +33,7 @@ fn reused<R: Runner>(
     requires least { found (admits_by R.Entry.meaning R.Entry.test) cache.now input.now ≡ Some number }
     ensures answer { IfOk result (λ a. Answers (admits_by R.Entry.meaning R.Entry.test) (R.runs (R.subject runner.old)) cache.now input.now (answer_of a) cache.now) }
     ensures ends { IfOk result (λ a. HasEnd a.kind a.end) }
+    ensures counted { IfOk result (λ a. AreCounted (answer_of a ∷ []) (R.counts runner.old) (R.counts runner.new)) }
     ensures stays { R.subject runner.new ≡ R.subject runner.old }
 {
     let Some(entry) = cache.value(number) else {
@@ -59,6 +61,7 @@ fn recorded<R: Runner>(
     ensures answer { IfOk result (λ a. Answers (admits_by R.Entry.meaning R.Entry.test) (R.runs (R.subject runner.old)) cache.old input.now (answer_of a) cache.new) }
     ensures err { OnErr result (cache.new ≡ cache.old) }
     ensures ends { IfOk result (λ a. HasEnd a.kind a.end) }
+    ensures counted { IfOk result (λ a. AreCounted (answer_of a ∷ []) (R.counts runner.old) (R.counts runner.new)) }
     ensures stays { R.subject runner.new ≡ R.subject runner.old }
 {
     match runner.record(alloc, input)? {
@@ -92,6 +95,7 @@ pub(crate) fn answer_to<R: Runner>(
     ensures answer { IfOk result (λ a. Answers (admits_by R.Entry.meaning R.Entry.test) (R.runs (R.subject runner.old)) cache.old input.now (answer_of a) cache.new) }
     ensures err { OnErr result (cache.new ≡ cache.old) }
     ensures ends { IfOk result (λ a. HasEnd a.kind a.end) }
+    ensures counted { IfOk result (λ a. AreCounted (answer_of a ∷ []) (R.counts runner.old) (R.counts runner.new)) }
     ensures stays { R.subject runner.new ≡ R.subject runner.old }
 {
     match cache.find(input) {

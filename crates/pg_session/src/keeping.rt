@@ -3,9 +3,10 @@ ghost use Rattle.std.specs.Prelude.{◌≡◌, ◌<◌, ◌≤◌, ◌+◌, ◌�
 ghost use Rattle.pg_io.specs.Faults.{Rose};
 ghost use Rattle.pg_io.specs.Streams.{TakesAtMost};
 ghost use Rattle.pg_num.specs.declared.limits.TheConstants.{CACHE_LIMIT, SESSION_INPUT_LIMIT};
+ghost use Rattle.pg_session.specs.Counts.{KeepsCounted};
 ghost use Rattle.pg_session.specs.Progress.{Stands};
 ghost use Rattle.pg_session.specs.Sessions.{IsExact, admits_by};
-ghost use Rattle.pg_session.specs.Texts.{HasBytes, KeepsAll};
+ghost use Rattle.pg_session.specs.Texts.{HasBytes};
 
 use crate::fault::ServeFault;
 use crate::runner::Runner;
@@ -44,7 +45,7 @@ pub fn kept_by<R: Runner, S: Source>(
     requires exact { IsExact R.Entry.meaning }
     requires stands { Stands (R.runs (R.subject runner.old)) first }
     requires few { first.inserted ≤ CACHE_LIMIT }
-    ensures done { IfOk result (λ c. HasBytes (S.rest src.old) (KeepsAll (admits_by R.Entry.meaning R.Entry.test) (R.runs (R.subject runner.old)) first c)) }
+    ensures done { IfOk result (λ c. HasBytes (S.rest src.old) (KeepsCounted (admits_by R.Entry.meaning R.Entry.test) (R.runs (R.subject runner.old)) first c (R.counts runner.old) (R.counts runner.new))) }
     ensures no_write { IsErrOf result ServeFault.WriteFault → ⊥ }
     ensures read_cause { IsErrOf result ServeFault.ReadFault → Rose (S.faults src.old) (S.faults src.new) }
     ensures read_count { IsErrOf result ServeFault.ReadFault ⊎ (S.faults src.new ≡ S.faults src.old) }

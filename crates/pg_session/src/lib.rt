@@ -16,4 +16,4 @@ pub use keeping::kept_by;
 pub use runner::{Recording, Run, Runner};
 pub use serving::serve;
 pub use session::begin;
-pub use trials::trial;
+pub use trials::{trial, turns_of};

@@ -1,7 +1,9 @@
 //! What a session asks of a program.
-ghost use Rattle.std.specs.Prelude.{◌≡◌, ◌≤◌, true, length, IfOk};
+ghost use Rattle.std.specs.Prelude.{◌≡◌, ◌≤◌, true, length, Some, IfOk, OnOk};
 ghost use Rattle.pg_num.specs.declared.limits.TheConstants.{NUMBERS_LIMIT};
+ghost use Rattle.pg_session.specs.Counts.{Counted, Counts};
 ghost use Rattle.pg_session.specs.Sessions.{Runs, IsEntryOf};
+ghost use Rattle.pg_session.specs.Trials.{turns_of};
 ghost use Rattle.pg_session.specs.Recordings.{ComesOfRecording};
 
 use pg_cache::Admits;
@@ -38,10 +40,16 @@ pub trait Runner {
     // What comes of recording an input, and of a run along an entry's schedule.
     ghost runs: { Subject → Runs Self.Entry };
 
+    // How many turns were done along schedules and how many inputs were recorded, as far as they are counted: each at most the
+    // greatest `u64`.
+    ghost counts: { Self → Counts };
+
     /// Records a run on an input.
     fn record(&mut self, alloc: Global, input: &[i64]) -> Result<Recording<Self::Entry>, AllocError>
         requires { length input.now ≤ NUMBERS_LIMIT }
         ensures gives { IfOk result (ComesOfRecording (runs (subject self.old)) input.now) }
+        ensures counts_stay { Counted 0 0 (counts self.old) (counts self.new) }
+        ensures counts { OnOk result (Counted 0 1 (counts self.old) (counts self.new)) }
         ensures stays { subject self.new ≡ subject self.old };
 
     /// Runs along the schedule of an entry of the same program, which admits the input.
@@ -55,5 +63,7 @@ pub trait Runner {
         requires entry { IsEntryOf (runs (subject self.old)) entry.now }
         requires admitted { Self.Entry.test (Self.Entry.meaning entry.now) input.now ≡ true }
         ensures gives { IfOk result (λ r. (runs (subject self.old)).along entry.now input.now r.output.items r.end) }
+        ensures counts_stay { Counted 0 0 (counts self.old) (counts self.new) }
+        ensures counts { IfOk result (λ r. Counted (turns_of (Some r.end)) 0 (counts self.old) (counts self.new)) }
         ensures stays { subject self.new ≡ subject self.old };
 }

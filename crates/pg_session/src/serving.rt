@@ -3,10 +3,11 @@ ghost use Rattle.std.specs.Prelude.{◌≡◌, ◌<◌, ◌≤◌, ◌+◌, ◌�
 ghost use Rattle.pg_io.specs.Faults.{Rose};
 ghost use Rattle.pg_io.specs.Streams.{TakesAtMost};
 ghost use Rattle.pg_num.specs.declared.limits.TheConstants.{CACHE_LIMIT, SESSION_INPUT_LIMIT};
+ghost use Rattle.pg_session.specs.Counts.{ServesCounted, told};
 ghost use Rattle.pg_session.specs.Lines.{lines_of};
 ghost use Rattle.pg_session.specs.Progress.{HasAll, HasAnswered, HasCut, HasTaken, Stands};
 ghost use Rattle.pg_session.specs.Sessions.{IsExact, admits_by};
-ghost use Rattle.pg_session.specs.Texts.{HasBytes, ServesAll, ServesFront, ServesLimit, ServesTaken};
+ghost use Rattle.pg_session.specs.Texts.{HasBytes, ServesFront, ServesLimit, ServesTaken};
 
 use crate::fault::ServeFault;
 use crate::runner::Runner;
@@ -31,10 +32,12 @@ fn take_pieces<R: Runner, S: Source, K: Sink>(
     requires stands { Stands (R.runs (R.subject runner.old)) session.old.cache }
     requires few { session.old.cache.inserted ≤ CACHE_LIMIT }
     requires line { session.old.line.items ≡ [] }
-    ensures taken { IfOk result (λ ended. HasTaken (admits_by R.Entry.meaning R.Entry.test) (R.runs (R.subject runner.old)) session.old.cache (S.rest src.old) (S.rest src.new) (K.taken out.old) (K.taken out.new)
+    ensures taken { IfOk result (λ ended. HasTaken (admits_by R.Entry.meaning R.Entry.test) (R.runs (R.subject runner.old)) session.old.cache (S.rest src.old) (S.rest src.new)
+        (told (K.taken out.old) (R.counts runner.old)) (told (K.taken out.new) (R.counts runner.new))
         session.new.cache session.new.line.items ended) }
     ensures read_fault { IsErrOf result ServeFault.ReadFault →
-        HasAnswered (admits_by R.Entry.meaning R.Entry.test) (R.runs (R.subject runner.old)) session.old.cache (S.rest src.old) (S.rest src.new) (K.taken out.old) (K.taken out.new) }
+        HasAnswered (admits_by R.Entry.meaning R.Entry.test) (R.runs (R.subject runner.old)) session.old.cache (S.rest src.old) (S.rest src.new)
+        (told (K.taken out.old) (R.counts runner.old)) (told (K.taken out.new) (R.counts runner.new)) }
     ensures cut { (IsErrOf result ServeFault.WriteFault ⊎ IsErrOf result ServeFault.OutOfMemory) →
         HasCut (admits_by R.Entry.meaning R.Entry.test) (R.runs (R.subject runner.old)) session.old.cache (S.rest src.old) (S.rest src.new) (K.taken out.old) (K.taken out.new) }
     ensures within { IsErrOf result ServeFault.InputLimit → ⊥ }
@@ -93,7 +96,8 @@ pub(crate) fn take_all<R: Runner, S: Source, K: Sink>(
     requires few { session.old.cache.inserted ≤ CACHE_LIMIT }
     requires line { session.old.line.items ≡ [] }
     ensures all { OnOk result (HasAll (admits_by R.Entry.meaning R.Entry.test)
-        (R.runs (R.subject runner.old)) session.old.cache (S.rest src.old) (K.taken out.old) (K.taken out.new) session.new.cache session.new.line.items) }
+        (R.runs (R.subject runner.old)) session.old.cache (S.rest src.old)
+        (told (K.taken out.old) (R.counts runner.old)) (told (K.taken out.new) (R.counts runner.new)) session.new.cache session.new.line.items) }
     ensures input_limit { IsErrOf result ServeFault.InputLimit →
         HasBytes (S.rest src.old) (ServesLimit (admits_by R.Entry.meaning R.Entry.test) (R.runs (R.subject runner.old)) session.old.cache (K.taken out.old) (K.taken out.new)) }
     ensures read_fault { IsErrOf result ServeFault.ReadFault →
@@ -134,7 +138,8 @@ pub fn serve<R: Runner, S: Source, K: Sink>(
     requires exact { IsExact R.Entry.meaning }
     requires stands { Stands (R.runs (R.subject runner.old)) first }
     requires few { first.inserted ≤ CACHE_LIMIT }
-    ensures done { OnOk result (HasBytes (S.rest src.old) (ServesAll (admits_by R.Entry.meaning R.Entry.test) (R.runs (R.subject runner.old)) first (K.taken out.old) (K.taken out.new))) }
+    ensures done { OnOk result (HasBytes (S.rest src.old) (ServesCounted (admits_by R.Entry.meaning R.Entry.test) (R.runs (R.subject runner.old)) first
+        (told (K.taken out.old) (R.counts runner.old)) (told (K.taken out.new) (R.counts runner.new)))) }
     ensures input_limit { IsErrOf result ServeFault.InputLimit →
         HasBytes (S.rest src.old) (ServesLimit (admits_by R.Entry.meaning R.Entry.test) (R.runs (R.subject runner.old)) first (K.taken out.old) (K.taken out.new)) }
     ensures read_fault { IsErrOf result ServeFault.ReadFault →

@@ -3,6 +3,7 @@ ghost use Rattle.std.specs.Prelude.{◌≡◌, ◌≤◌, ◌<◌, ◌+◌, ◌-
 ghost use Rattle.pg_io.specs.Faults.{Rose};
 ghost use Rattle.pg_num.specs.declared.limits.TheConstants.{LINE_LIMIT};
 ghost use Rattle.pg_session_texts.specs.Replies.{HasEnd};
+ghost use Rattle.pg_session.specs.Counts.{AreCounted, told};
 ghost use Rattle.pg_session.specs.Lines.{input_of};
 ghost use Rattle.pg_session.specs.Sessions.{AnswersLine, IsExact, admits_by, answer_text, begin};
 ghost use Rattle.pg_session.specs.Progress.{Answered, CutShort, IsReplyTo, Stands, begun_after, inputs_after, keep};
@@ -49,6 +50,7 @@ fn answer_line<R: Runner>(
     requires count { cache.old.inserted < 2 ^ 64 - 1 }
     ensures answer { IfOk result (λ a. AnswersLine (admits_by R.Entry.meaning R.Entry.test) (R.runs (R.subject runner.old)) cache.old (input_of line.now) (answer_of a) cache.new) }
     ensures ends { IfOk result (λ a. HasEnd a.kind a.end) }
+    ensures counted { IfOk result (λ a. AreCounted (answer_of a ∷ []) (R.counts runner.old) (R.counts runner.new)) }
     ensures stays { R.subject runner.new ≡ R.subject runner.old }
 {
     match input_of(alloc, line)? {
@@ -80,7 +82,7 @@ fn reply<R: Runner>(
     requires exact { IsExact R.Entry.meaning }
     requires stands { Stands (R.runs (R.subject runner.old)) cache.old }
     requires count { cache.old.inserted < 2 ^ 64 - 1 }
-    ensures text { IfOk result (λ text. IsReplyTo (admits_by R.Entry.meaning R.Entry.test) (R.runs (R.subject runner.old)) cache.old line.now cache.new text.items) }
+    ensures text { IfOk result (λ text. IsReplyTo (admits_by R.Entry.meaning R.Entry.test) (R.runs (R.subject runner.old)) cache.old line.now cache.new text.items (R.counts runner.old) (R.counts runner.new)) }
     ensures stays { R.subject runner.new ≡ R.subject runner.old }
 {
     let answer = answer_line(alloc, runner, cache, line)?;
@@ -99,7 +101,7 @@ pub(crate) fn end_line<R: Runner, K: Sink>(
     requires stands { Stands (R.runs (R.subject runner.old)) session.old.cache }
     requires count { session.old.cache.inserted < 2 ^ 64 - 1 }
     ensures answered { OnOk result (Answered (admits_by R.Entry.meaning R.Entry.test) (R.runs (R.subject runner.old)) session.old.cache (input_of session.old.line.items ∷ [])
-        session.new.cache (K.taken out.old) (K.taken out.new)) }
+        session.new.cache (told (K.taken out.old) (R.counts runner.old)) (told (K.taken out.new) (R.counts runner.new))) }
     ensures cut { OnErr result (CutShort (admits_by R.Entry.meaning R.Entry.test)
         (R.runs (R.subject runner.old)) session.old.cache (input_of session.old.line.items ∷ []) (K.taken out.old) (K.taken out.new)) }
     ensures line { OnOk result (session.new.line.items ≡ []) }
@@ -137,7 +139,7 @@ pub(crate) fn take_piece<R: Runner, K: Sink>(
     requires count { session.old.cache.inserted + length piece.now < 2 ^ 64 - 1 }
     requires line { length session.old.line.items ≤ LINE_LIMIT + 1 }
     ensures answered { OnOk result (Answered (admits_by R.Entry.meaning R.Entry.test) (R.runs (R.subject runner.old)) session.old.cache (inputs_after session.old.line.items piece.now)
-        session.new.cache (K.taken out.old) (K.taken out.new)) }
+        session.new.cache (told (K.taken out.old) (R.counts runner.old)) (told (K.taken out.new) (R.counts runner.new))) }
     ensures cut { OnErr result (CutShort (admits_by R.Entry.meaning R.Entry.test)
         (R.runs (R.subject runner.old)) session.old.cache (inputs_after session.old.line.items piece.now) (K.taken out.old) (K.taken out.new)) }
     ensures line { OnOk result (session.new.line.items ≡ begun_after session.old.line.items piece.now) }

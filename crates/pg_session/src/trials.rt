@@ -2,9 +2,10 @@
 ghost use Rattle.std.specs.Prelude.{◌≡◌, ◌≤◌, ◌<◌, ◌+◌, ◌-◌, ◌^◌, [], ◌∷◌, ◌++◌, count_by, string_bytes, IfOk, OnOk};
 ghost use Rattle.std.specs.List.{filter_map};
 ghost use Rattle.pg_session_trial.specs.declared.line.TheConstants.{TRIAL_LIMIT};
+ghost use Rattle.pg_session.specs.Counts.{TrialCounted};
 ghost use Rattle.pg_session.specs.Sessions.{IsExact, admits_by};
 ghost use Rattle.pg_session.specs.Lines.{number_of};
-ghost use Rattle.pg_session.specs.Trials.{IsTrialText, count_line, counts_text, is_recorded, is_refused, is_reused, numbers_printed, sum_from, sum_line, turns_of};
+ghost use Rattle.pg_session.specs.Trials.{count_line, counts_text, is_recorded, is_refused, is_reused, numbers_printed, sum_from, sum_line, turns_of};
 
 use crate::answers::{Answer, answer_to};
 use crate::runner::Runner;
@@ -26,8 +27,8 @@ struct Counts {
     sum: u64,
 }
 
-// How many turns a run along a schedule did.
-fn turns_of(end: Option<EndLine>) -> u64
+/// How many turns a run along a schedule did, and 0 where there was none.
+pub fn turns_of(end: Option<EndLine>) -> u64
     ensures turns { result ≡ turns_of end }
     ensures few { result < 2 ^ 32 }
 {
@@ -160,7 +161,7 @@ fn counts_text(alloc: Global, number: u64, counts: Counts) -> Result<Vec<u8>, Al
 pub fn trial<R: Runner>(alloc: Global, runner: &mut R, number: u64) -> Result<Vec<u8>, AllocError>
     requires exact { IsExact R.Entry.meaning }
     requires number { number ≤ TRIAL_LIMIT }
-    ensures text { IfOk result (λ text. IsTrialText (admits_by R.Entry.meaning R.Entry.test) (R.runs (R.subject runner.old)) number text.items) }
+    ensures text { IfOk result (λ text. TrialCounted (admits_by R.Entry.meaning R.Entry.test) (R.runs (R.subject runner.old)) number (R.counts runner.old) (R.counts runner.new) text.items) }
     ensures stays { R.subject runner.new ≡ R.subject runner.old }
 {
     let mut cache: Cache<R::Entry> = Cache::new(alloc, CACHE_LIMIT)?;

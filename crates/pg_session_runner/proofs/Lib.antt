@@ -4,3 +4,4 @@ pub mod ReusedEntries
 pub mod RecordedEntries
 pub mod ReusedLines
 pub mod RecordedLines
+pub mod LoadedTurns

@@ -14,6 +14,7 @@ use Rattle.pg_session_texts.specs.Shows.{show_text}
 use Rattle.pg_session_entry.specs.Entries.{EntryParts, IsEntry, IsEntryOfTurns}
 use Rattle.pg_law_order.specs.Served.{IsServed, guided_along}
 use Rattle.pg_run.specs.declared.outcome.Refusal.{Refusal}
+use Rattle.pg_session.specs.Counts.{Counts}
 use Rattle.pg_session.specs.Sessions.{Runs}
 
 -- ---- recording
@@ -64,6 +65,11 @@ pub record RunsAlong (p : NumberedProgram) (entry : EntryParts) (input : List �
 pub record Subject : Type 0 where
   pub program : NumberedProgram
   pub quantum : ℕ
+
+-- the same, and what was counted of its runs so far
+pub record Running : Type 0 where
+  pub subject : Subject
+  pub counts : Counts
 
 -- the runs of a program, recorded in rotation with this quantum
 abbrev pub runs_of : NumberedProgram → ℕ → Runs EntryParts

@@ -3,9 +3,11 @@
 
 mod along;
 pub mod laws;
+mod loading;
 mod recording;
 mod runner;
 mod shows;
 
+pub use loading::{LoadFault, load_turns};
 pub use runner::ProgramRunner;
 pub use shows::show;

@@ -4,24 +4,30 @@ use crate::along::{own_input_is_small, ran};
 use crate::laws::each_entry_serves_what_it_admits;
 use crate::recording::recorded;
 use pg_ir::Program;
-use pg_session::{Recording, Run, Runner};
+use pg_session::{Recording, Run, Runner, turns_of};
 use pg_session_entry::Entry;
 use std::alloc::{AllocError, Global};
 use std::marker::Model;
 
 /// A program that a session runs. Its recordings let threads take their turns in number order, with up to a quantum of steps each.
+/// It counts the turns that runs along schedules did, and the inputs that were recorded.
 #[derive(Drop)]
 pub struct ProgramRunner<'a> {
     program: &'a Program,
     quantum: u32,
+    turns: u64,
+    recordings: u64,
 }
 
 impl<'a> Model for ProgramRunner<'a> {
-    ghost use Rattle.pg_session_runner.specs.Runs.{CanServe, Subject};
+    ghost use Rattle.pg_session_runner.specs.Runs.{CanServe, Running};
 
-    ghost Value = { Subject };
+    ghost Value = { Running };
 
-    ghost view = { λ r. record { program = r.program.now; quantum = r.quantum } };
+    ghost view = { λ r. record {
+      subject = record { program = r.program.now; quantum = r.quantum };
+      counts = record { turns = r.turns; recordings = r.recordings };
+    } };
 
     ghost invariant = { λ r. CanServe (record { program = r.program.now; quantum = r.quantum }) };
 }
@@ -33,10 +39,15 @@ impl<'a> ProgramRunner<'a> {
     /// The runs of a program, recorded with this quantum.
     pub fn new(program: &'a Program, quantum: u32) -> ProgramRunner<'a>
         requires { CanServe (record { program = program.now; quantum = quantum }) }
-        ensures program { result.program ≡ program.now }
-        ensures quantum { result.quantum ≡ quantum }
+        ensures program { result.subject.program ≡ program.now }
+        ensures quantum { result.subject.quantum ≡ quantum }
     {
-        ProgramRunner { program, quantum }
+        ProgramRunner {
+            program,
+            quantum,
+            turns: 0,
+            recordings: 0,
+        }
     }
 }
 
@@ -47,12 +58,16 @@ impl<'a> Runner for ProgramRunner<'a> {
 
     ghost Subject = { Subject };
 
-    ghost subject = { λ r. r };
+    ghost subject = { λ r. r.subject };
 
     ghost runs = { λ s. runs_of s.program s.quantum };
 
+    ghost counts = { λ r. r.counts };
+
     fn record(&mut self, alloc: Global, input: &[i64]) -> Result<Recording<Entry>, AllocError> {
-        recorded(alloc, self.program, input, self.quantum)
+        let recording = recorded(alloc, self.program, input, self.quantum)?;
+        self.recordings = self.recordings.saturating_add(1);
+        Ok(recording)
     }
 
     fn run_along(
@@ -63,6 +78,8 @@ impl<'a> Runner for ProgramRunner<'a> {
     ) -> Result<Run, AllocError> {
         each_entry_serves_what_it_admits();
         own_input_is_small(entry);
-        ran(alloc, self.program, entry, input)
+        let run = ran(alloc, self.program, entry, input)?;
+        self.turns = self.turns.saturating_add(turns_of(Some(run.end)));
+        Ok(run)
     }
 }

@@ -59,8 +59,8 @@ pub fn show(
     input: &[i64],
 ) -> Result<Vec<u8>, AllocError>
     requires { length input.now ≤ NUMBERS_LIMIT }
-    ensures text { IfOk result (λ text. IsShowText (runs_of runner.old.program runner.old.quantum) shown input.now text.items) }
-    ensures stays { runner.new ≡ runner.old }
+    ensures text { IfOk result (λ text. IsShowText (runs_of runner.old.subject.program runner.old.subject.quantum) shown input.now text.items) }
+    ensures stays { runner.new.subject ≡ runner.old.subject }
 {
     match runner.record(alloc, input)? {
         Recording::Kept(entry, run) => entry_text(alloc, &entry, &run),

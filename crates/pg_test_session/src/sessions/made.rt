@@ -1,6 +1,6 @@
 //! Runs that are made up: each prints the sum of its input, and an entry admits each input that is as long as its own, and the
 //! empty one. An input that begins with 0 traps, and one that begins with 1 takes too many steps.
-ghost use Rattle.std.specs.Prelude.{◌≡◌, ◌==◌, ◌||◌, ℕ, length};
+ghost use Rattle.std.specs.Prelude.{◌≡◌, ◌==◌, ◌||◌, ◌-◌, ◌^◌, ℕ, length};
 ghost use Rattle.pg_session.specs.Sessions.{Runs};
 
 use pg_cache::Admits;
@@ -58,6 +58,9 @@ impl Runner for Sums {
       along = λ _ _ _ _. Unit {0};
       given = λ _. ⊥;
     } };
+
+    // Nothing is counted: both counts stand at their greatest value.
+    ghost counts = { λ _. record { turns = 2 ^ 64 - 1; recordings = 2 ^ 64 - 1 } };
 
     fn record(&mut self, alloc: Global, input: &[i64]) -> Result<Recording<Length>, AllocError> {
         match input {

@@ -1,23 +1,25 @@
-use Rattle.std.proofs.Common.{rules, inr}
+use Rattle.std.proofs.Common.{◌∙◌, rules, inr, sym}
 use Rattle.pg_commands.proofs.LongTexts.{long_text}
-use Rattle.pg_commands.proofs.ShelfFaults.{all_stay}
+use Rattle.pg_commands.proofs.ShelfFaults.{all_stay, counts_told, is_err, own_stays}
 use Rattle.pg_commands.proofs.programs.fetch_program.Goals as goal
 
 pub returns-in_err-load-in-Ok-clause-counts : goal.returns-in_err-load-in-Ok-clause-counts
 returns-in_err-load-in-Ok-clause-counts g c = λ name. inr (all_stay _ _ _ c.in-Ok.ensures.others_stay (search rules) name)
 
-pub returns-in_err-too_long_line-in-Err-TooLong-clause-counts : goal.returns-in_err-too_long_line-in-Err-TooLong-clause-counts
-returns-in_err-too_long_line-in-Err-TooLong-clause-counts g c = λ name. inr (all_stay _ _ _ c.in-Err-TooLong.ensures.others_stay (search rules) name)
-
 pub returns-in_ok-load-in-Ok-clause-counts : goal.returns-in_ok-load-in-Ok-clause-counts
 returns-in_ok-load-in-Ok-clause-counts g c = λ name. inr (all_stay _ _ _ c.in-Ok.ensures.others_stay (search rules) name)
 
-pub returns-in_ok-too_long_line-in-Err-TooLong-clause-loaded : goal.returns-in_ok-too_long_line-in-Err-TooLong-clause-loaded
-returns-in_ok-too_long_line-in-Err-TooLong-clause-loaded g c =
-    long_text _ _ (c.in-Err-TooLong.ensures.too_long (rw c.in-Err-TooLong.field-0-is (search rules))) c.in_ok-too_long_line-in-Err-TooLong.ensures
+pub returns-in-Some-clause-counts : goal.returns-in-Some-clause-counts
+returns-in-Some-clause-counts g c = λ name. counts_told c.in-Err.fault c.in-Some.cause _ _ _ (sym c.in-Some.is ∙ c.unfetched.ensures.cause) c.in-Err.ensures.others_stay c.in-Err.ensures.count_stays name
 
-pub returns-in_ok-too_long_line-in-Err-TooLong-clause-counts : goal.returns-in_ok-too_long_line-in-Err-TooLong-clause-counts
-returns-in_ok-too_long_line-in-Err-TooLong-clause-counts g c = λ name. inr (all_stay _ _ _ c.in-Err-TooLong.ensures.others_stay (search rules) name)
+pub returns-in_err-too_long_line-in-None-clause-counts : goal.returns-in_err-too_long_line-in-None-clause-counts
+returns-in_err-too_long_line-in-None-clause-counts g c = λ name.
+    inr (all_stay _ _ _ c.in-Err.ensures.others_stay (own_stays c.in-Err.fault c.in-None.ensures.too_long c.in-Err.ensures.count_stays) name)
 
-pub returns-in-Err-OutOfMemory-clause-counts : goal.returns-in-Err-OutOfMemory-clause-counts
-returns-in-Err-OutOfMemory-clause-counts g c = λ name. inr (all_stay _ _ _ c.in-Err-OutOfMemory.ensures.others_stay (search rules) name)
+pub returns-in_ok-too_long_line-in-None-clause-loaded : goal.returns-in_ok-too_long_line-in-None-clause-loaded
+returns-in_ok-too_long_line-in-None-clause-loaded g c =
+    long_text _ _ (c.in-Err.ensures.too_long (is_err _ _ c.in-None.ensures.too_long)) c.in_ok-too_long_line-in-None.ensures
+
+pub returns-in_ok-too_long_line-in-None-clause-counts : goal.returns-in_ok-too_long_line-in-None-clause-counts
+returns-in_ok-too_long_line-in-None-clause-counts g c = λ name.
+    inr (all_stay _ _ _ c.in-Err.ensures.others_stay (own_stays c.in-Err.fault c.in-None.ensures.too_long c.in-Err.ensures.count_stays) name)

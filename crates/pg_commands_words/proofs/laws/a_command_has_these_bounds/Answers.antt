@@ -1,13 +1,13 @@
 use Rattle.std.proofs.Common.{◌≡◌, ℕ, ℤ, List, refl, [], ◌∷◌, codes, None, arith}
 use Rattle.pg_commands_words.specs.Commands.{once}
-use Rattle.pg_commands_words.specs.Once.{IsOnce, left_out}
+use Rattle.pg_commands_words.specs.Once.{IsOnce}
 use Rattle.pg_commands_words.proofs.Meanings.{one-command, within}
 use Rattle.pg_commands_words.proofs.laws.a_command_has_these_bounds.Goals as goal
 
 -- the word by itself
 alone : IsOnce (codes "once" ∷ []) 100 []
 alone = record {
-  line = record { before = []; choice = left_out; between = []; end = None };
+  line = record { pieces = []; end = None };
   spelled = refl;
   plain = refl;
   has_quantum = refl;

@@ -1,5 +1,6 @@
 use Rattle.std.proofs.Common.{◌≡◌, ◌≤◌, ◌-◌}
 use Rattle.pg_num.specs.declared.limits.TheConstants.{SESSION_INPUT_LIMIT}
+use Rattle.pg_session.specs.Counts.{told}
 use Rattle.pg_session.specs.Sessions.{admits_by}
 use Rattle.pg_session.proofs.TakenBytes.{SoFar}
 use Rattle.pg_session.proofs.serving.take_pieces.Given as goal
@@ -7,7 +8,7 @@ use Rattle.pg_session.proofs.serving.take_pieces.Given as goal
 abbrev pub invariant-loop-taken : goal.invariant-loop-taken
 invariant-loop-taken g l = record {
   far : SoFar (admits_by g.R.Entry.Admits.meaning g.R.Entry.Admits.test) (g.R.Runner.runs (g.R.Runner.subject l.fn.runner)) l.fn.session.cache (g.S.Source.rest l.fn.src) (g.S.Source.rest l.src)
-      (g.K.Sink.taken l.fn.out) (g.K.Sink.taken l.out) l.session.cache l.session.line.items l.taken;
+      (told (g.K.Sink.taken l.fn.out) (g.R.Runner.counts l.fn.runner)) (told (g.K.Sink.taken l.out) (g.R.Runner.counts l.runner)) l.session.cache l.session.line.items l.taken;
   within : l.taken ≤ SESSION_INPUT_LIMIT;
   read_count : g.S.Source.faults l.src ≡ g.S.Source.faults l.fn.src;
   write_count : g.K.Sink.faults l.out ≡ g.K.Sink.faults l.fn.out;

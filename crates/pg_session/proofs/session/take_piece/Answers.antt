@@ -28,7 +28,7 @@ returns-in_err-keep-clause-cut g c = on_any_err _ (piece_cut _ _ _ _ c.args.sess
 pub loop-byte-preserved : goal.loop-byte-preserved
 loop-byte-preserved g c = elim c.if-byte-eq10.branch [
   | then-byte-eq10+in_ok-end_line w ↦ record {
-    answered = rw (w.session-is, w.out-is) (line_ends _ _ _ _ _ _ c.args.session.now.line.items c.loop-byte.session.line.items c.args.piece.now c.loop-byte.byte-index 0 _ _ _
+    answered = rw (w.session-is, w.out-is, w.runner-is) (line_ends _ _ _ _ _ _ c.args.session.now.line.items c.loop-byte.session.line.items c.args.piece.now c.loop-byte.byte-index 0 _ _ _
         (ap g.R.Runner.runs c.loop-byte.invariant.subject) c.loop-byte-test.true w.if-byte-eq10.true c.loop-byte.invariant.line c.loop-byte.invariant.answered w.in_ok-end_line.ensures.answered);
     line = rw w.session-is (w.in_ok-end_line.ensures.line
         ∙ sym (begun_ended c.args.session.now.line.items c.args.piece.now c.loop-byte.byte-index 0 c.loop-byte-test.true w.if-byte-eq10.true));
@@ -37,7 +37,7 @@ loop-byte-preserved g c = elim c.if-byte-eq10.branch [
     subject = rw w.runner-is (w.in_ok-end_line.ensures.stays ∙ c.loop-byte.invariant.subject);
   }
   | else-byte-eq10+in_ok-keep w ↦ record {
-    answered = rw (w.session-is, w.out-is) (byte_kept _ _ _ _ c.args.session.now.line.items c.args.piece.now c.loop-byte.byte-index 0 _ _
+    answered = rw (w.session-is, w.out-is, w.runner-is) (byte_kept _ _ _ _ c.args.session.now.line.items c.args.piece.now c.loop-byte.byte-index 0 _ _
         c.loop-byte-test.true w.if-byte-eq10.false c.loop-byte.invariant.answered);
     line = rw w.session-is (w.in_ok-keep.ensures
         ∙ begun_longer c.args.session.now.line.items c.loop-byte.session.line.items c.args.piece.now c.loop-byte.byte-index 0 c.loop-byte-test.true w.if-byte-eq10.false c.loop-byte.invariant.line);

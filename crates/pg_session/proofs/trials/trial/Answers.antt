@@ -1,12 +1,13 @@
-use Rattle.std.proofs.Common.{◌≡◌, ◌≤◌, ◌∙◌, ℕ, ℤ, List, Vec, Global, sym, subst, arith, length}
+use Rattle.std.proofs.Common.{◌≡◌, ◌≤◌, ◌∙◌, ℕ, ℤ, List, Vec, Global, sym, subst, arith, length, rules}
 use Rattle.pg_num.specs.declared.limits.TheConstants.{NUMBERS_LIMIT}
 use Rattle.pg_session_trial.specs.Lines.{trial_line}
 use Rattle.pg_session_trial.specs.declared.line.TheConstants.{TRIAL_LINES}
+use Rattle.pg_session.specs.Counts.{TrialCounted}
 use Rattle.pg_session.specs.Progress.{Stands}
 use Rattle.pg_session.specs.Sessions.{Answers, admits_by}
-use Rattle.pg_session.specs.Trials.{IsTrialText, counts_text}
+use Rattle.pg_session.specs.Trials.{counts_text}
 use Rattle.pg_session.specs.Views.{answer_of}
-use Rattle.pg_session.proofs.TrialCounts.{few_numbers, if_ok, tallied_all, tallied_more}
+use Rattle.pg_session.proofs.TrialCounts.{few_numbers, if_ok, tallied_all, tallied_first, tallied_more}
 use Rattle.pg_session.proofs.trials.trial.Goals as goal
 
 pub answer_to-requires-clause-few : goal.answer_to-requires-clause-few
@@ -17,6 +18,12 @@ answer_to-requires-clause-stands g c = subst (λ s. Stands (g.R.Runner.runs s) c
 
 pub answer_to-requires-clause-count : goal.answer_to-requires-clause-count
 answer_to-requires-clause-count g c = let b = c.loop-i.invariant.tallied.few_kept in omega (arith, b, c.loop-i-test.true)
+
+pub loop-i-init : goal.loop-i-init
+loop-i-init g c = record {
+  tallied = rw c.in_ok-cache.ensures (tallied_first (admits_by g.R.Entry.Admits.meaning g.R.Entry.Admits.test) (g.R.Runner.runs (g.R.Runner.subject c.args.runner.now)) c.args.number (g.R.Runner.counts c.args.runner.now));
+  subject = search rules;
+}
 
 pub loop-i-preserved : goal.loop-i-preserved
 loop-i-preserved g c =
@@ -31,9 +38,11 @@ loop-i-preserved g c =
     record {
       tallied = tallied_more admits runs c.args.number c.loop-i.i c.loop-i.cache c.answer_to.new.cache answer
           before.recorded before.reused before.refused before.turns before.sum after.recorded after.reused after.refused after.turns after.sum
+          (g.R.Runner.counts c.args.runner.now) (g.R.Runner.counts c.loop-i.runner) (g.R.Runner.counts c.answer_to.new.runner)
           (subst (λ s. Answers admits (g.R.Runner.runs s) c.loop-i.cache line answer c.answer_to.new.cache) c.loop-i.invariant.subject by_input)
           c.counted-counts.ensures.recorded c.counted-counts.ensures.reused c.counted-counts.ensures.refused
-          c.counted-counts.ensures.turns c.counted-counts.ensures.few_turns c.counted-counts.ensures.sum c.loop-i.invariant.tallied;
+          c.counted-counts.ensures.turns c.counted-counts.ensures.few_turns c.counted-counts.ensures.sum
+          c.in_ok-answer.ensures.counted c.loop-i.invariant.tallied;
       subject = c.in_ok-answer.ensures.stays ∙ c.loop-i.invariant.subject;
     }
 
@@ -44,6 +53,6 @@ returns-clause-text g c =
     let counts = c.loop-i.counts in
     let all : c.loop-i.i ≡ TRIAL_LINES = omega (arith, c.loop-i-test.false, c.loop-i.auto.i-end) in
     if_ok (λ (v : Vec ℕ Global). v.items ≡ counts_text c.args.number counts.recorded counts.reused counts.refused counts.turns counts.sum)
-    (λ (v : Vec ℕ Global). IsTrialText admits runs c.args.number v.items)
-    (λ v is. tallied_all admits runs c.args.number c.loop-i.i c.loop-i.cache counts.recorded counts.reused counts.refused counts.turns counts.sum v.items all c.loop-i.invariant.tallied is)
+    (λ (v : Vec ℕ Global). TrialCounted admits runs c.args.number (g.R.Runner.counts c.args.runner.now) (g.R.Runner.counts c.loop-i.runner) v.items)
+    (λ v is. tallied_all admits runs c.args.number c.loop-i.i c.loop-i.cache counts.recorded counts.reused counts.refused counts.turns counts.sum v.items _ _ all c.loop-i.invariant.tallied is)
     c.counts_text.result c.counts_text.ensures
