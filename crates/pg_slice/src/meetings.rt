@@ -111,6 +111,7 @@ fn disturbing_at(
     live: &[bool],
     n: usize,
     word: u64,
+    writes: bool,
 ) -> Option<usize>
     requires count { step_count run.now.r.now ≡ length run.now.t.now.steps }
     requires intervals { run.now.intervals.now ≡ intervals_of Recorded run.now.t.now.steps }
@@ -118,9 +119,13 @@ fn disturbing_at(
     ensures { IfSome result (λ y. (y < length run.now.t.now.steps) × (slice_index_or live.now y false ≡ true) × Disturbs run.now.r.now run.now.t.now.steps n y) }
 {
     let turn = next_turn(run.intervals, n);
+    let thread = run.t.step(n).thread;
     for (accessor, last) in rivals.from(word) {
         if !accessor.begins_at(word) {
             return None;
+        }
+        if !accessor.may_meet(thread, writes) {
+            continue;
         }
         if is_disturbing(run, live, n, *last) {
             return Some(*last);
@@ -147,7 +152,7 @@ fn disturbing_one(
     ensures { IfSome result (λ y. (y < length run.now.t.now.steps) × (slice_index_or live.now y false ≡ true) × Disturbs run.now.r.now run.now.t.now.steps n y) }
 {
     match run.r.access(n, k) {
-        Some(access) => disturbing_at(rivals, run, live, n, access.last),
+        Some(access) => disturbing_at(rivals, run, live, n, access.last, access.writes),
         None => None,
     }
 }
@@ -190,15 +195,20 @@ pub(crate) fn sharing(
     live: &[bool],
     n: usize,
     word: u64,
+    writes: bool,
 ) -> Option<usize>
     requires intervals { intervals.now ≡ intervals_of Recorded t.now.steps }
     requires number { n < length t.now.steps }
     ensures { IfSome result (λ y. (y < length t.now.steps) × (slice_index_or live.now y false ≡ true) × Shares t.now.steps n y) }
 {
     let turn = next_turn(intervals, n);
+    let thread = t.step(n).thread;
     for (accessor, last) in rivals.from(word) {
         if !accessor.begins_at(word) {
             return None;
+        }
+        if !accessor.may_meet(thread, writes) {
+            continue;
         }
         if is_sharing(t, intervals, live, n, *last) {
             return Some(*last);

@@ -52,6 +52,12 @@ impl Accessor {
         self.start == unpack(word).start
     }
 
+    /// Whether what it may access may meet what a thread accesses that writes as this says: it is another's, and one of the two
+    /// writes.
+    pub(crate) fn may_meet(&self, thread: ThreadNo, writes: bool) -> bool {
+        self.thread != thread && (self.writes || writes)
+    }
+
     /// Its steps for which the thread's last turn is the one before this turn.
     fn behind(self, turn: usize) -> Stretch {
         Stretch {
