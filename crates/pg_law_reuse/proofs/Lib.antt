@@ -1,1 +1,2 @@
 pub mod EntryRecordings
+pub use Rattle.pg_session_entry.proofs.Slicing

@@ -18,7 +18,7 @@ use Rattle.pg_run.specs.Runs.{events}
 use Rattle.pg_run.specs.State.{State, exit_value_of, next_of}
 use Rattle.pg_session_texts.specs.declared.reply.EndLine.{EndLine}
 use Rattle.pg_session_texts.specs.declared.reply.ReplyKind.TheVariants.{Recorded}
-use Rattle.pg_session_entry.specs.Entries.{EntryParts}
+use Rattle.pg_law_reuse.specs.Entries.{EntryParts}
 use Rattle.pg_law_order.specs.Served.{EndsAsGuided, guided_along}
 use Rattle.pg_law_order.proofs.ExitsHaveAllTurns.{exits_with}
 use Rattle.pg_session.specs.Sessions.{Answer, AnswersAll, opened}

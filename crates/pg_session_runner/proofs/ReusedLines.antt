@@ -11,7 +11,7 @@ use Rattle.pg_run.specs.Runs.{events}
 use Rattle.pg_run.specs.State.{State}
 use Rattle.pg_session_texts.specs.declared.reply.EndLine.{EndLine}
 use Rattle.pg_session_texts.specs.declared.reply.ReplyKind.TheVariants.{Reused}
-use Rattle.pg_session_entry.specs.Entries.{EntryParts}
+use Rattle.pg_law_reuse.specs.Entries.{EntryParts}
 use Rattle.pg_law_order.specs.Served.{EndsAsGuided, RunsAsGuided, guided_along}
 use Rattle.pg_session.specs.Sessions.{Answer, AnswersAll, opened}
 use Rattle.pg_session.proofs.KeptEntries.{at_place}

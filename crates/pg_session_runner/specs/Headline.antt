@@ -12,7 +12,7 @@ use Rattle.pg_law_runs.specs.Cuts.{CanStep, IsOrderedAlong}
 use Rattle.pg_law_order.specs.Good.{run_along}
 use Rattle.pg_session_texts.specs.declared.reply.EndLine.{EndLine}
 use Rattle.pg_session_texts.specs.declared.reply.ReplyKind.TheVariants.{Recorded, Reused}
-use Rattle.pg_session_entry.specs.Entries.{EntryParts}
+use Rattle.pg_law_reuse.specs.Entries.{EntryParts}
 use Rattle.pg_law_order.specs.Served.{IsServed, guided_along}
 use Rattle.pg_session.specs.Sessions.{Answer}
 use Rattle.pg_session.specs.Trials.{is_recorded}

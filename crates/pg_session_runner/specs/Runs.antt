@@ -11,7 +11,7 @@ use Rattle.pg_law_runs.specs.Cuts.{CanRun}
 use Rattle.pg_session_texts.specs.declared.reply.EndLine.{EndLine}
 use Rattle.pg_session_texts.specs.declared.reply.EndLine.TheVariants as ends
 use Rattle.pg_session_texts.specs.Shows.{show_text}
-use Rattle.pg_session_entry.specs.Entries.{EntryParts, IsEntry, IsEntryOfTurns}
+use Rattle.pg_law_reuse.specs.Entries.{EntryParts, IsEntry, IsEntryOfTurns}
 use Rattle.pg_law_order.specs.Served.{IsServed, guided_along}
 use Rattle.pg_run.specs.declared.outcome.Refusal.{Refusal}
 use Rattle.pg_session.specs.Counts.{Counts}

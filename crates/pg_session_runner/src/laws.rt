@@ -6,7 +6,7 @@ ghost use Rattle.pg_run.specs.Rotation.{rotation_of};
 ghost use Rattle.pg_law_runs.specs.Cuts.{CanRun};
 ghost use Rattle.pg_session_texts.specs.declared.reply.EndLine.{EndLine};
 ghost use Rattle.pg_session_texts.specs.declared.reply.ReplyKind.TheVariants.{Recorded, Reused};
-ghost use Rattle.pg_session_entry.specs.Entries.{EntryParts, IsEntry};
+ghost use Rattle.pg_law_reuse.specs.Entries.{EntryParts, IsEntry};
 ghost use Rattle.pg_law_order.specs.Good.{IsGoodRun};
 ghost use Rattle.pg_law_order.specs.Served.{IsServed};
 ghost use Rattle.pg_session.specs.Sessions.{Answer, AnswersAll, IsEntryOf, opened};

@@ -1,7 +1,7 @@
 use Rattle.std.proofs.Common.{rules, subst, ◌≡◌, ℤ, List, true}
 use Rattle.pg_precondition.specs.Values.{is_admitted}
 use Rattle.pg_run.specs.Rotation.{rotation_of}
-use Rattle.pg_session_entry.specs.Records.{IsRecord}
+use Rattle.pg_law_reuse.specs.Records.{IsRecord}
 use Rattle.pg_session_runner.proofs.recording.recorded.Goals as goal
 
 pub end_along-end-requires : goal.end_along-end-requires
