@@ -4,6 +4,7 @@ ghost use denote.Param.Send.{IsSync};
 
 use crate::crew::{FreeCrew, step_on};
 use crate::shared::{FreeShared, FreeWorker};
+use std::marker::Model;
 use std::sync::Wait;
 use std::thread;
 use std::thread::Threads;
@@ -18,17 +19,25 @@ pub struct Free {
     rounds: u64,
 }
 
+impl Model for Free {
+    ghost use Rattle.std.specs.Prelude.{ℕ};
+
+    ghost Value = { ℕ };
+
+    ghost view = { λ s. s.rounds };
+}
+
 impl Free {
     /// A crew that made no round.
     pub fn new() -> Free
-        ensures rounds { result.rounds ≡ 0 }
+        ensures rounds { result ≡ 0 }
     {
         Free { rounds: 0 }
     }
 
     /// How many rounds it made.
     pub fn rounds(&self) -> u64
-        ensures { result ≡ self.now.rounds }
+        ensures { result ≡ self.now }
     {
         self.rounds
     }
@@ -55,7 +64,7 @@ fn in_threads<R: Threads + Wait + Sync>(rt: &R, shared: &FreeShared<'_>, workers
 }
 
 impl<R: Threads + Wait + Sync> FreeCrew<R> for Free {
-    ghost rounds = { λ s. s.rounds };
+    ghost rounds = { λ s. s };
 
     fn round(&mut self, rt: &R, shared: &FreeShared<'_>, workers: &mut [FreeWorker]) {
         self.rounds = self.rounds.saturating_add(1);

@@ -5,6 +5,7 @@ ghost use Rattle.pg_num.specs.declared.limits.TheConstants.{THREAD_LIMIT};
 use crate::crew::{FreeCrew, step_on};
 use crate::shared::{FreeShared, FreeWorker};
 use pg_ir::ThreadNo;
+use std::marker::Model;
 use std::sync::Wait;
 
 /// Steps the worker of one thread until it can't go on, and then each other once, in number order.
@@ -14,18 +15,26 @@ pub struct Prefer {
     rounds: u64,
 }
 
+impl Model for Prefer {
+    ghost use Rattle.std.specs.Prelude.{ℕ};
+
+    ghost Value = { ℕ };
+
+    ghost view = { λ s. s.rounds };
+}
+
 impl Prefer {
     /// A crew that prefers this thread, and made no round.
     pub fn new(thread: ThreadNo) -> Prefer
         requires { thread.0 < THREAD_LIMIT }
-        ensures rounds { result.rounds ≡ 0 }
+        ensures rounds { result ≡ 0 }
     {
         Prefer { thread, rounds: 0 }
     }
 
     /// How many rounds it made.
     pub fn rounds(&self) -> u64
-        ensures { result ≡ self.now.rounds }
+        ensures { result ≡ self.now }
     {
         self.rounds
     }
@@ -45,7 +54,7 @@ fn one_by_one<R: Wait>(rt: &R, shared: &FreeShared<'_>, first: usize, workers: &
 }
 
 impl<R: Wait> FreeCrew<R> for Prefer {
-    ghost rounds = { λ s. s.rounds };
+    ghost rounds = { λ s. s };
 
     fn round(&mut self, rt: &R, shared: &FreeShared<'_>, workers: &mut [FreeWorker]) {
         self.rounds = self.rounds.saturating_add(1);

@@ -5,6 +5,7 @@ use crate::crew::FreeCrew;
 use crate::shared::{FreeShared, FreeWorker};
 use rand_core::{Rng, SeedableRng};
 use rand_xoshiro::SplitMix64;
+use std::marker::Model;
 use std::sync::Wait;
 
 /// How many workers are drawn in a round.
@@ -19,10 +20,18 @@ pub struct Seeded {
     rounds: u64,
 }
 
+impl Model for Seeded {
+    ghost use Rattle.std.specs.Prelude.{ℕ};
+
+    ghost Value = { ℕ };
+
+    ghost view = { λ s. s.rounds };
+}
+
 impl Seeded {
     /// A crew that made no round, with the generator of this seed.
     pub fn new(seed: u64) -> Seeded
-        ensures rounds { result.rounds ≡ 0 }
+        ensures rounds { result ≡ 0 }
     {
         Seeded {
             generator: SplitMix64::seed_from_u64(seed),
@@ -32,7 +41,7 @@ impl Seeded {
 
     /// How many rounds it made.
     pub fn rounds(&self) -> u64
-        ensures { result ≡ self.now.rounds }
+        ensures { result ≡ self.now }
     {
         self.rounds
     }
@@ -55,7 +64,7 @@ fn drawn<R: Wait>(
 }
 
 impl<R: Wait> FreeCrew<R> for Seeded {
-    ghost rounds = { λ s. s.rounds };
+    ghost rounds = { λ s. s };
 
     fn round(&mut self, rt: &R, shared: &FreeShared<'_>, workers: &mut [FreeWorker]) {
         self.rounds = self.rounds.saturating_add(1);

@@ -7,6 +7,7 @@ use crate::state::FreeState;
 use pg_ir::ThreadNo;
 use pg_num::limits::THREAD_LIMIT;
 use std::alloc::{AllocError, Global};
+use std::marker::Model;
 use std::sync::{Mutex, Wait};
 
 /// What the workers of a round share: a machine and its steps under a lock. It is made by `free_record` alone.
@@ -20,6 +21,16 @@ pub struct FreeShared<'a> {
 #[derive(Clone, Copy, Debug, PartialEq, Eq)]
 pub struct FreeWorker {
     thread: ThreadNo,
+}
+
+impl Model for FreeWorker {
+    ghost use Rattle.pg_ir.specs.declared.ids.ThreadNo.{ThreadNo};
+
+    ghost Value = { ThreadNo };
+
+    ghost view = { λ w. w.thread };
+
+    ghost inverse = { λ t. record { thread = t } };
 }
 
 impl<'a> FreeShared<'a> {
