@@ -6,15 +6,21 @@ ghost use Rattle.pg_free.specs.Crews.{AreWorkers};
 
 use crate::shared::{FreeShared, FreeWorker};
 use std::sync::Wait;
+use std::thread::Threads;
 
 /// Runs the workers of a round, in one thread or in several. The count of its rounds is a number of 64 bits that never falls, and
 /// stands still at its greatest value.
-pub trait FreeCrew<R> {
+pub trait FreeCrew {
     /// How many rounds it made.
     ghost rounds: { Self → ℕ };
 
     /// Makes a round: steps the threads of a run by these workers, worker i for thread i.
-    fn round(&mut self, rt: &R, shared: &FreeShared<'_>, workers: &mut [FreeWorker])
+    fn round<R: Threads + Wait + Sync>(
+        &mut self,
+        rt: &R,
+        shared: &FreeShared<'_>,
+        workers: &mut [FreeWorker],
+    )
         requires sync { IsSync R.row }
         requires workers { AreWorkers workers.old }
         ensures places { AreWorkers workers.new }

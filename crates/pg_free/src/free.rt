@@ -9,7 +9,8 @@ use std::sync::Wait;
 use std::thread;
 use std::thread::Threads;
 
-/// The most steps that a worker takes at a hold of the lock. A lock costs about as much as a step.
+/// The most steps that a worker takes at a hold of the lock. To hand a lock to a thread that sleeps costs some microseconds, and
+/// so do these steps.
 const STEPS_A_HOLD: u32 = 16;
 
 /// Runs the workers of the threads that are made in host threads of their own, each until it can't go on.
@@ -63,10 +64,15 @@ fn in_threads<R: Threads + Wait + Sync>(rt: &R, shared: &FreeShared<'_>, workers
     }
 }
 
-impl<R: Threads + Wait + Sync> FreeCrew<R> for Free {
+impl FreeCrew for Free {
     ghost rounds = { λ s. s };
 
-    fn round(&mut self, rt: &R, shared: &FreeShared<'_>, workers: &mut [FreeWorker]) {
+    fn round<R: Threads + Wait + Sync>(
+        &mut self,
+        rt: &R,
+        shared: &FreeShared<'_>,
+        workers: &mut [FreeWorker],
+    ) {
         self.rounds = self.rounds.saturating_add(1);
         let made = shared.count(rt).min(workers.len());
         in_threads(rt, shared, &mut workers[..made]);

@@ -7,6 +7,7 @@ use crate::shared::{FreeShared, FreeWorker};
 use pg_ir::ThreadNo;
 use std::marker::Model;
 use std::sync::Wait;
+use std::thread::Threads;
 
 /// Steps the worker of one thread until it can't go on, and then each other once, in number order.
 #[derive(Drop)]
@@ -53,10 +54,15 @@ fn one_by_one<R: Wait>(rt: &R, shared: &FreeShared<'_>, first: usize, workers: &
     }
 }
 
-impl<R: Wait> FreeCrew<R> for Prefer {
+impl FreeCrew for Prefer {
     ghost rounds = { λ s. s };
 
-    fn round(&mut self, rt: &R, shared: &FreeShared<'_>, workers: &mut [FreeWorker]) {
+    fn round<R: Threads + Wait + Sync>(
+        &mut self,
+        rt: &R,
+        shared: &FreeShared<'_>,
+        workers: &mut [FreeWorker],
+    ) {
         self.rounds = self.rounds.saturating_add(1);
         one_by_one(rt, shared, self.thread.0 as usize, workers);
     }

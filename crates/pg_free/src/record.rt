@@ -20,7 +20,7 @@ use std::thread::Threads;
 const ROUND_LIMIT: u32 = 500_000;
 
 /// One round: what lies under the lock, before and after it.
-fn round<'a, R: Threads + Wait + Sync, C: FreeCrew<R>>(
+fn round<'a, R: Threads + Wait + Sync, C: FreeCrew>(
     rt: &R,
     alloc: Global,
     state: FreeState<'a>,
@@ -40,7 +40,7 @@ fn round<'a, R: Threads + Wait + Sync, C: FreeCrew<R>>(
 
 /// A run by rounds of these workers, until no thread can take a step more, or the rounds are spent: the threads whose steps it
 /// took, and that of a trap at its end.
-fn rounds<R: Threads + Wait + Sync, C: FreeCrew<R>>(
+fn rounds<R: Threads + Wait + Sync, C: FreeCrew>(
     rt: &R,
     alloc: Global,
     p: &Program,
@@ -90,7 +90,7 @@ fn along(
 /// Where no memory is left for it.
 // A lock tells of its value what the value's type keeps, so what comes from under it is a run of a program that isn't known to be
 // `p`. So its steps are taken once more here, alone.
-pub fn free_record<R: Threads + Wait + Sync, C: FreeCrew<R>>(
+pub fn free_record<R: Threads + Wait + Sync, C: FreeCrew>(
     rt: &R,
     alloc: Global,
     p: &Program,

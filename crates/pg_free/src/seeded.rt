@@ -7,6 +7,7 @@ use rand_core::{Rng, SeedableRng};
 use rand_xoshiro::SplitMix64;
 use std::marker::Model;
 use std::sync::Wait;
+use std::thread::Threads;
 
 /// How many workers are drawn in a round.
 const DRAWS_A_ROUND: u32 = 1_000;
@@ -63,10 +64,15 @@ fn drawn<R: Wait>(
     }
 }
 
-impl<R: Wait> FreeCrew<R> for Seeded {
+impl FreeCrew for Seeded {
     ghost rounds = { λ s. s };
 
-    fn round(&mut self, rt: &R, shared: &FreeShared<'_>, workers: &mut [FreeWorker]) {
+    fn round<R: Threads + Wait + Sync>(
+        &mut self,
+        rt: &R,
+        shared: &FreeShared<'_>,
+        workers: &mut [FreeWorker],
+    ) {
         self.rounds = self.rounds.saturating_add(1);
         drawn(rt, shared, &mut self.generator, workers);
     }
