@@ -60,9 +60,6 @@ begun_none y e = go y.begun refl e
     go true q k = absurd cc
     go false q k = q
 
-same_state : (a b : LocalState) → Path (Option LocalState) (Some a) (Some b) → a ≡ b
-same_state a b e = cc
-
 first_none : (p : NumberedProgram) (t : ℕ) → (first_seen p).locals t ≡ record { local = None; taken = 0 }
 unfolding initial fresh
 first_none p zero = refl
@@ -76,12 +73,6 @@ some_of None e = absurd cc
 some_of (Some x) e = (x, refl)
 
 module _ (p : NumberedProgram) (input : List ℤ) (s : Schedule) (can : CanRun p input) (g : IsGoodRun p input s) where
-  abbrev T : List ℕ
-  T = owners_of s.turns
-
-  abbrev pub all : List Did
-  all = guided_deeds p input s
-
   pub are_turns : AreTurns deeds (owners_of s.turns) 0 (guided_deeds p input s)
   are_turns = (is_plan p input s can g).turns
 

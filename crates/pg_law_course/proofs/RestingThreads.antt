@@ -63,9 +63,6 @@ use Rattle.pg_law_course.proofs.TurnNumbers.{NextTurn, below, next_at, own_turns
 abbrev pub Resting : List InstrId → ℕ → Action → Bool → Type 0
 Resting gated id action spent = ((goes_on action ≡ false) ⊎ (spent ≡ true)) ⊎ (is_event_at gated id action ≡ true)
 
-plain_rests : (spent : Bool) (gated : List InstrId) (id : ℕ) (action : Action) → spent ≡ true → Resting gated id action spent
-plain_rests spent gated id action e = inl (inr e)
-
 spent_or : (b : Bool) → (b || false) ≡ true → b ≡ true
 spent_or true e = refl
 spent_or false e = absurd cc
@@ -126,12 +123,6 @@ not_strayed true w e h n = h
 not_strayed false w e h n = absurd (n h)
 
 module _ (p : NumberedProgram) (input : List ℤ) (s : Schedule) (can : CanRun p input) (g : IsGoodRun p input s) where
-  abbrev w : State
-  w = (run_along p input s).state
-
-  abbrev xs : List Step
-  xs = (run_along p input s).trace
-
   last_reached : IsReached p (run_along p input s).state
   last_reached = reached_run s.gated p input (initial p) (run_along p input s).state (run_along p input s).trace can.program can.small (reached_first p can.program can.bytes)
       (ordered_full p input s can g).permitted.run
@@ -170,9 +161,6 @@ module _ (p : NumberedProgram) (input : List ℤ) (s : Schedule) (can : CanRun p
   -- ---- a thread with a turn left
 
   module _ (t : ℕ) (l : LocalState) (n : ℕ) (now : state_at p input s t (length (course p input s t)) ≡ Some l) (left : next_turn p input s t (length (course p input s t)) ≡ Some n) where
-    abbrev k : ℕ
-    k = length (course p input s t)
-
     count_turns : turns_in p input s t (length (course p input s t)) ≡ below t (turn_count p input s) (owners_of s.turns)
     count_turns =
         let c = own_turns t (owners_of s.turns) 0 (guided_deeds p input s) (is_plan p input s can g).turns in

@@ -113,9 +113,6 @@ start_fresh : (p : NumberedProgram) (t f : ℕ) → start_of (fresh p t f) ≡ S
 unfolding fresh
 start_fresh p t f = refl
 
-one_start : (f g : ℕ) → Path (Option (Option ℕ)) (Some (Some f)) (Some (Some g)) → g ≡ f
-one_start f g e = cc
-
 module _ (gated : List InstrId) (p : NumberedProgram) (input : List ℤ) (turns : List Turn) (s : State) (t : ℕ) where
   abbrev starts_with : Action → List (Option ℕ)
   starts_with action = (objects_with t (request_effect p s t action) (objects_of s)).starts

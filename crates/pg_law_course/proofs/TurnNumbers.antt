@@ -1,5 +1,5 @@
 -- The numbers of a thread's turns.
-use Rattle.std.proofs.Common.{◌≡◌, ℕ, zero, suc, ◌+◌, ◌≤◌, List, [], ◌∷◌, length, Bool, true, false, cond, Option, Some, refl, sym, ◌∙◌, ap, subst, arith}
+use Rattle.std.proofs.Common.{◌≡◌, ℕ, zero, suc, ◌+◌, ◌≤◌, ◌<◌, List, [], ◌∷◌, length, Bool, true, false, cond, Option, Some, refl, sym, ◌∙◌, ap, subst, arith}
 use Rattle.std.specs.Prelude.{◌==◌, slice_get, if◌then◌else◌}
 use Rattle.std.specs.List.{filter}
 use Rattle.pg_law_threads.specs.Effects.{deeds}
@@ -97,3 +97,46 @@ next_at t b (suc c) (o ∷ T) g e = go (t == o) refl e (next_at t (suc b) c T g)
         (more (ap (λ (v : Bool). slice_get (if v then b ∷ turns_from t (suc b) T else turns_from t (suc b) T) (if v then suc (below t c T) else below t c T)) (sym q) ∙ h))
     go false q h more = later_turn t b c (suc c) o T g (omega arith)
         (more (ap (λ (v : Bool). slice_get (if v then b ∷ turns_from t (suc b) T else turns_from t (suc b) T) (if v then suc (below t c T) else below t c T)) (sym q) ∙ h))
+
+-- ---- the turns of a thread, one after another
+
+-- each of them is a turn of the thread
+pub record OwnTurn (t b : ℕ) (T : List ℕ) (g : ℕ) : Type 0 where
+  pub turn : ℕ
+  pub number : g ≡ b + turn
+  pub own : slice_get T turn ≡ Some t
+
+one_later : (t b o : ℕ) (T : List ℕ) (g : ℕ) → OwnTurn t (suc b) T g → OwnTurn t b (o ∷ T) g
+one_later t b o T g h = record { turn = suc h.turn; number = let n = h.number in omega (arith, n); own = h.own }
+
+pub own_turn : (t b : ℕ) (T : List ℕ) (i g : ℕ) → slice_get (turns_from t b T) i ≡ Some g → OwnTurn t b T g
+own_turn t b [] i g e = absurd cc
+own_turn t b (o ∷ T) i g e = go (t == o) refl i e (λ j. own_turn t (suc b) T j g)
+  where
+    go : (v : Bool) → (t == o) ≡ v → (i : ℕ) → slice_get (turns_from t b (o ∷ T)) i ≡ Some g → ((j : ℕ) → slice_get (turns_from t (suc b) T) j ≡ Some g → OwnTurn t (suc b) T g)
+        → OwnTurn t b (o ∷ T) g
+    go true q zero h more =
+        let k : Path (Option ℕ) (Some b) (Some g) = ap (λ (v : Bool). slice_get (if v then b ∷ turns_from t (suc b) T else turns_from t (suc b) T) 0) (sym q) ∙ h in
+        let same : b ≡ g = cc in
+        record { turn = 0; number = omega (arith, same); own = ap (λ (n : ℕ). Some n) (sym (same_number t o q)) }
+    go true q (suc i) h more = one_later t b o T g (more i (ap (λ (v : Bool). slice_get (if v then b ∷ turns_from t (suc b) T else turns_from t (suc b) T) (suc i)) (sym q) ∙ h))
+    go false q i h more = one_later t b o T g (more i (ap (λ (v : Bool). slice_get (if v then b ∷ turns_from t (suc b) T else turns_from t (suc b) T) i) (sym q) ∙ h))
+
+-- they ascend
+pub ascend : (t b : ℕ) (T : List ℕ) (i j g h : ℕ) → slice_get (turns_from t b T) i ≡ Some g → slice_get (turns_from t b T) j ≡ Some h → i < j → g < h
+ascend t b [] i j g h e f l = absurd cc
+ascend t b (o ∷ T) i j g h e f l = go (t == o) refl i j e f l (λ i j. ascend t (suc b) T i j g h)
+  where
+    without : (v : Bool) → (t == o) ≡ v → (i n : ℕ) → slice_get (turns_from t b (o ∷ T)) i ≡ Some n → slice_get (if v then b ∷ turns_from t (suc b) T else turns_from t (suc b) T) i ≡ Some n
+    without v q i n k = ap (λ (v : Bool). slice_get (if v then b ∷ turns_from t (suc b) T else turns_from t (suc b) T) i) (sym q) ∙ k
+
+    go : (v : Bool) → (t == o) ≡ v → (i j : ℕ) → slice_get (turns_from t b (o ∷ T)) i ≡ Some g → slice_get (turns_from t b (o ∷ T)) j ≡ Some h → i < j
+        → ((i j : ℕ) → slice_get (turns_from t (suc b) T) i ≡ Some g → slice_get (turns_from t (suc b) T) j ≡ Some h → i < j → g < h) → g < h
+    go true q i zero e f l more = absurd (omega (arith, l))
+    go true q zero (suc j) e f l more =
+        let k : Path (Option ℕ) (Some b) (Some g) = without true q 0 g e in
+        let same : b ≡ g = cc in
+        let later = (own_turn t (suc b) T j h (without true q (suc j) h f)).number in
+        omega (arith, same, later)
+    go true q (suc i) (suc j) e f l more = more i j (without true q (suc i) g e) (without true q (suc j) h f) (omega (arith, l))
+    go false q i j e f l more = more i j (without false q i g e) (without false q j h f) l

@@ -4,7 +4,7 @@
 
 pub mod examples;
 
-ghost use Rattle.std.specs.Prelude.{◌≡◌, ◌++◌, [], ℕ, suc, ℤ, List, Some, if◌then◌else◌, length, slice_get, take, true};
+ghost use Rattle.std.specs.Prelude.{◌≡◌, ◌<◌, ◌++◌, [], ℕ, suc, ℤ, List, Some, if◌then◌else◌, length, slice_get, take, true};
 ghost use Rattle.std.specs.List.{cons_option};
 ghost use Rattle.pg_num.specs.Places.{ByteRange};
 ghost use Rattle.pg_ir.specs.Program.{NumberedProgram};
@@ -16,11 +16,12 @@ ghost use Rattle.pg_run_thread.specs.LocalState.{LocalState};
 ghost use Rattle.pg_run_thread.specs.Step.{after, next};
 ghost use Rattle.pg_run_thread.specs.Told.{id_of, number_given};
 ghost use Rattle.pg_run_trace.specs.declared.schedule.Schedule.{Schedule};
+ghost use Rattle.pg_run_trace.specs.declared.turn.Turn.{Turn};
 ghost use Rattle.pg_law_runs.specs.Cuts.{CanRun};
 ghost use Rattle.pg_law_runs.specs.Deeds.{Did, owners_of};
 ghost use Rattle.pg_law_order.specs.Good.{IsGoodRun, run_along};
 ghost use Rattle.pg_law_order.specs.Served.{guided_along};
-ghost use Rattle.pg_law_course.specs.Course.{before, cells_before, course, next_turn, shared_in, state_at, turns_before, turns_in};
+ghost use Rattle.pg_law_course.specs.Course.{before, cells_before, course, next_turn, shared_in, state_at, turns_before, turns_in, turns_of};
 ghost use Rattle.pg_law_course.specs.Plan.{first_seen, guided_deeds, is_shared, own_plan, plan_of, turn_count};
 ghost use Rattle.pg_law_course.specs.Prints.{number_told, numbers_printed, output_along, output_of, word_behind};
 ghost use Rattle.pg_law_course.specs.Rests.{RestsAt, cells_left, exit_end};
@@ -66,6 +67,12 @@ pub fn a_step_is_counted()
         → turns_in p input s t (suc k) ≡ (if deeds.is_event d then suc (turns_in p input s t k) else turns_in p input s t k) }
     ensures numbers { (p : NumberedProgram) (input : List ℤ) (s : Schedule) (t k : ℕ) (d : Did) → slice_get (course p input s t) k ≡ Some d
         → numbers_printed p input s t (suc k) ≡ numbers_printed p input s t k ++ cons_option (number_told d.told.kind) [] }
+{}
+
+/// The numbers of a thread's turns are those of turns that it owns, and they ascend.
+pub fn the_turns_of_a_thread_ascend()
+    ensures own { (t i g : ℕ) (turns : List Turn) → slice_get (turns_of t turns) i ≡ Some g → slice_get (owners_of turns) g ≡ Some t }
+    ensures ascend { (t i j g h : ℕ) (turns : List Turn) → slice_get (turns_of t turns) i ≡ Some g → slice_get (turns_of t turns) j ≡ Some h → i < j → g < h }
 {}
 
 /// A shared step of a thread stands in the plan behind so many of the thread's shared steps, with its interval, which ends with its

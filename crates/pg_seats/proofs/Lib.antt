@@ -12,3 +12,4 @@ pub mod TurnParts
 pub mod SeatSteps
 pub mod Begins
 pub mod SeatLaws
+pub mod ThreadSteps

@@ -26,7 +26,7 @@ use Rattle.pg_seats.proofs.NextSteps as steps
 use Rattle.pg_seats.proofs.Parts.{is_part, none_put, not_put, over_all, over_more, over_none, over_still, turn_none, turn_same}
 use Rattle.pg_seats.proofs.RunFacts as runs
 
-there : (r : Run) (t m b : ℕ) → (effects (first_of r) (before t m (plan_of r))).cells b ≡ cells_there r t m b
+pub there : (r : Run) (t m b : ℕ) → (effects (first_of r) (before t m (plan_of r))).cells b ≡ cells_there r t m b
 unfolding cells_there
 there r t m b = refl
 
@@ -35,7 +35,7 @@ next_same : (w : Standing) (due : Bool) (parts seen looks : ℕ) → next_of (re
 unfolding next_of
 next_same w due parts seen looks = refl
 
-next_some : (w : Standing) (x : Timed Did) → slice_get (own_of w.run w.thread) w.done ≡ Some x → next_of w ≡ Some x
+pub next_some : (w : Standing) (x : Timed Did) → slice_get (own_of w.run w.thread) w.done ≡ Some x → next_of w ≡ Some x
 unfolding next_of
 next_some w x e = e
 

@@ -2,3 +2,4 @@ pub mod Plan
 pub mod Views
 pub mod Rule
 pub mod Plays
+pub mod Steps

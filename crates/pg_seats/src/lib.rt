@@ -9,6 +9,7 @@ pub mod laws;
 pub mod rule;
 pub mod run;
 pub mod seats;
+pub mod steps;
 pub mod turns;
 
 pub use rule::{Place, RunWords};

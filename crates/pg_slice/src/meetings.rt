@@ -96,6 +96,14 @@ fn is_disturbing(run: &GivenRun, live: &[bool], n: usize, y: usize) -> bool
     disturbs(run, n, y)
 }
 
+/// The turn that a step's thread does next; the first where nothing is told of the step.
+fn next_turn(intervals: &[Interval], n: usize) -> usize {
+    match intervals.get(n) {
+        Some(interval) => interval.high,
+        None => 0,
+    }
+}
+
 /// A live step that may access what begins where a pointer's bounds begin, and that disturbs a freeable one.
 fn disturbing_at(
     rivals: &Rivals,
@@ -109,12 +117,17 @@ fn disturbing_at(
     requires number { n < length run.now.t.now.steps }
     ensures { IfSome result (λ y. (y < length run.now.t.now.steps) × (slice_index_or live.now y false ≡ true) × Disturbs run.now.r.now run.now.t.now.steps n y) }
 {
-    for (accessor, step) in rivals.from(word) {
+    let turn = next_turn(run.intervals, n);
+    for (accessor, last) in rivals.from(word) {
         if !accessor.begins_at(word) {
             return None;
         }
-        if is_disturbing(run, live, n, *step) {
-            return Some(*step);
+        if is_disturbing(run, live, n, *last) {
+            return Some(*last);
+        }
+        let step = rivals.up_to(accessor, turn).unwrap_or(*last);
+        if step != *last && is_disturbing(run, live, n, step) {
+            return Some(step);
         }
     }
     None
@@ -182,12 +195,17 @@ pub(crate) fn sharing(
     requires number { n < length t.now.steps }
     ensures { IfSome result (λ y. (y < length t.now.steps) × (slice_index_or live.now y false ≡ true) × Shares t.now.steps n y) }
 {
-    for (accessor, step) in rivals.from(word) {
+    let turn = next_turn(intervals, n);
+    for (accessor, last) in rivals.from(word) {
         if !accessor.begins_at(word) {
             return None;
         }
-        if is_sharing(t, intervals, live, n, *step) {
-            return Some(*step);
+        if is_sharing(t, intervals, live, n, *last) {
+            return Some(*last);
+        }
+        let step = rivals.up_to(accessor, turn).unwrap_or(*last);
+        if step != *last && is_sharing(t, intervals, live, n, step) {
+            return Some(step);
         }
     }
     None

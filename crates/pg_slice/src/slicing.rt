@@ -15,8 +15,26 @@ use pg_slice_walk::holders::holders;
 use pg_slice_walk::widen;
 use std::alloc::{AllocError, Global};
 
+/// Takes decisions that each closed set above the present ones has: those for which what has to be known along the run asks.
+fn take_demanded(
+    alloc: Global,
+    run: &GivenRun,
+    holders: &[u32],
+    counts: &[Counts],
+    d: &mut DecisionSet,
+) -> Result<(), AllocError>
+    requires given { AreGiven run.now.p.now run.now.t.now.steps run.now.intervals.now run.now.r.now }
+    requires older { AreOlder holders.now }
+    requires size { AreOf (length run.now.t.now.steps) d.old }
+    ensures size { OnOk result (AreOf (length run.now.t.now.steps) d.new) }
+    ensures left { OnOk result (left_by d.new ≤ left_by d.old) }
+    ensures widens { OnOk result (Widens run.now.p.now run.now.r.now holders.now counts.now run.now.t.now.steps (taken_by d.old) (taken_by d.new)) }
+{
+    widen(alloc, run.p, run.t, run.r, holders, counts, d)
+}
+
 /// Takes decisions that each closed set above the present ones has: those for which what has to be known along the run asks,
-/// and those for which the live steps ask by their bounds.
+/// those for which the live steps ask by their bounds, and then, if these were some, again the former.
 fn take_found(
     alloc: Global,
     run: &GivenRun,
@@ -32,7 +50,11 @@ fn take_found(
     ensures widens { OnOk result (Widens run.now.p.now run.now.r.now holders.now counts.now run.now.t.now.steps (taken_by d.old) (taken_by d.new)) }
 {
     widen(alloc, run.p, run.t, run.r, holders, counts, d)?;
-    spread_over(alloc, run, holders, d)
+    let took = spread_over(alloc, run, holders, d)?;
+    if took {
+        return take_demanded(alloc, run, holders, counts, d);
+    }
+    Ok(())
 }
 
 /// The slice of a reference run, and what an input must give so that it serves: from no decisions on, what is found by a

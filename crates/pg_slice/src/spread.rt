@@ -16,6 +16,7 @@ ghost use Rattle.pg_slice_walk.specs.Settled.{ArePinned, AreSettled};
 use crate::meetings::{disturbing, sharing};
 use crate::rivals::Rivals;
 use pg_run_trace::{Step, StepKind};
+use pg_schedule::Interval;
 use pg_slice_decisions::DecisionSet;
 use pg_slice_passes::GivenRun;
 use pg_slice_replay::ReferenceRun;
@@ -113,25 +114,58 @@ fn take_if(d: &mut DecisionSet, steps: usize, asked: bool, x: Decision)
 fn note_one(
     rivals: &mut Rivals,
     step: &Step,
+    turn: usize,
     r: &ReferenceRun,
     n: usize,
     k: usize,
 ) -> Result<(), AllocError> {
     if let Some(access) = r.access(n, k) {
-        rivals.note(access.last, step.thread, access.writes, n)?;
+        rivals.note(access.last, step.thread, access.writes, turn, n)?;
+    }
+    Ok(())
+}
+
+/// Behind how many turns a step's thread did its last one; 0 where nothing is told of the step.
+fn turn_before(intervals: &[Interval], n: usize) -> usize {
+    match intervals.get(n) {
+        Some(interval) => interval.low,
+        None => 0,
+    }
+}
+
+/// The first pointer of the accesses of a freeable step's region; 0 where there is none.
+fn first_pointer(r: &ReferenceRun, n: usize) -> u64 {
+    match r.access(n, 0) {
+        Some(access) => access.last,
+        None => 0,
+    }
+}
+
+/// Notes the bounds of a freeable step's region, where those of its branch weren't noted between the same turns.
+fn note_region(
+    rivals: &mut Rivals,
+    run: &GivenRun,
+    step: &Step,
+    turn: usize,
+    n: usize,
+) -> Result<(), AllocError> {
+    let count = run.r.access_count(n);
+    if count == 0 || rivals.is_noted(step.thread, step.instr, turn, first_pointer(run.r, n))? {
+        return Ok(());
+    }
+    for k in 0..count {
+        note_one(rivals, step, turn, run.r, n, k)?;
     }
     Ok(())
 }
 
 /// Notes the bounds of a live step.
-fn note(rivals: &mut Rivals, step: &Step, r: &ReferenceRun, n: usize) -> Result<(), AllocError> {
+fn note(rivals: &mut Rivals, run: &GivenRun, step: &Step, n: usize) -> Result<(), AllocError> {
+    let turn = turn_before(run.intervals, n);
     if let Some(access) = step.access() {
-        rivals.note(access.pointer, step.thread, access.writes, n)?;
+        rivals.note(access.pointer, step.thread, access.writes, turn, n)?;
     }
-    for k in 0..r.access_count(n) {
-        note_one(rivals, step, r, n, k)?;
-    }
-    Ok(())
+    note_region(rivals, run, step, turn, n)
 }
 
 /// A step is live.
@@ -168,6 +202,11 @@ fn take_asked(s: &Spread, run: &GivenRun, holders: &[u32], d: &mut DecisionSet, 
     take_if(d, run.t.len(), exact, Decision::Exact(n));
 }
 
+/// Whether a decision on a step is taken.
+fn is_taken(d: &DecisionSet, n: usize) -> bool {
+    d.is_pinned(n) || d.is_exact(n)
+}
+
 /// What the rules ask of a step is taken, where it is live.
 fn spread_step(
     s: &mut Spread,
@@ -192,9 +231,11 @@ fn spread_step(
         return Ok(());
     }
     mark_live(s, n);
+    let was = is_taken(d, n);
     take_asked(s, run, holders, d, n);
     mark_settled(s, d, n);
-    note(&mut s.rivals, &run.t.step(n), run.r, n)?;
+    s.rivals.tell(is_taken(d, n) != was);
+    note(&mut s.rivals, run, &run.t.step(n), n)?;
     Ok(())
 }
 
@@ -237,13 +278,13 @@ fn start(alloc: Global, steps: usize) -> Result<Spread, AllocError>
 }
 
 /// Takes what the first rule, the fourth and the fifth ask of the steps that are live, and of those that are live then: the
-/// second time along the run the steps that may meet one are known.
+/// second time along the run the steps that may meet one are known. Tells whether it took anything.
 pub(crate) fn spread_over(
     alloc: Global,
     run: &GivenRun,
     holders: &[u32],
     d: &mut DecisionSet,
-) -> Result<(), AllocError>
+) -> Result<bool, AllocError>
     requires count { step_count run.now.r.now ≡ length run.now.t.now.steps }
     requires intervals { run.now.intervals.now ≡ intervals_of Recorded run.now.t.now.steps }
     requires size { AreOf (length run.now.t.now.steps) d.old }
@@ -254,5 +295,5 @@ pub(crate) fn spread_over(
     let mut s = start(alloc, run.t.len())?;
     spread_along(&mut s, run, holders, d)?;
     spread_along(&mut s, run, holders, d)?;
-    Ok(())
+    Ok(s.rivals.took())
 }

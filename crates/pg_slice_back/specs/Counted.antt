@@ -6,10 +6,11 @@ use Rattle.pg_law_least.specs.Keeps.{every}
 use Rattle.pg_law_demands.specs.Along.{known_at}
 use Rattle.pg_slice_back.specs.declared.registers.Counts.{Counts}
 
--- of the present call of a thread, and of the call under it
+-- of the present call of a thread, and of the call under it, and how many threads there are
 pub record AreCountsOf (s : SymbolicState) (t : ℕ) (c : Counts) : Type 0 where
   pub present : c.present ≡ length (registers_of s t)
   pub under : c.under ≡ length (top_of (under_top (thread_of s t).calls))
+  pub threads : c.threads ≡ length s.threads
 
 -- before step n, which this is
 abbrev pub IsCounted : Reference → ℕ → Moment → Counts → Type 0

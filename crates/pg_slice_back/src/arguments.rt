@@ -44,7 +44,11 @@ fn argument(op: &Op, i: usize) -> Option<Value>
 }
 
 /// An argument has to be known, whole or by its bounds alone.
-pub(crate) fn put_argument(
+///
+/// # Errors
+///
+/// Where no memory is left.
+pub fn put_argument(
     w: &mut Demanded,
     at: Call,
     op: &Op,

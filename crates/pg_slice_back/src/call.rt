@@ -14,7 +14,7 @@ pub struct Call {
 }
 
 /// The call that does a step.
-pub(crate) fn call_of(r: &ReferenceRun, step: &Step, n: usize) -> Call
+pub fn call_of(r: &ReferenceRun, step: &Step, n: usize) -> Call
     ensures thread { result.thread ≡ step.now.thread.0 }
     ensures depth { IfSome (landmark_at r.now n) (λ l. result.depth ≡ l.depth) }
 {

@@ -114,6 +114,13 @@ impl Calls {
         count_of(self.held.as_slice(), top)
     }
 
+    /// How many threads there are.
+    pub(crate) fn threads(&self) -> usize
+        ensures { (s : SymbolicState) → AreStacks self.now s → result ≡ length s.threads }
+    {
+        self.tops.len()
+    }
+
     /// After a step. Each thread whose step it is has begun.
     ///
     /// # Errors

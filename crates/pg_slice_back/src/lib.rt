@@ -17,7 +17,9 @@ mod region;
 mod registers;
 mod step;
 
-pub use call::Call;
+pub use arguments::put_argument;
+pub use call::{Call, call_of};
 pub use live::back_live;
+pub use moves::put_optional;
 pub use region::sets_any;
 pub use registers::{Counts, register_counts};

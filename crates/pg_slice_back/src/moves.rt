@@ -38,7 +38,7 @@ pub(crate) fn put_value(
 /// # Errors
 ///
 /// Where no memory is left.
-pub(crate) fn put_optional(
+pub fn put_optional(
     w: &mut Demanded,
     at: Call,
     value: Option<Value>,

@@ -1,4 +1,4 @@
-//! How many registers the calls of a run's steps have.
+//! How many registers the calls of a run's steps have, and how many threads there are.
 
 ghost use Rattle.std.specs.Prelude.{◌≡◌, ◌+◌, suc, ℤ, List, [], Some, IfOk, OnOk, length, slice_get};
 ghost use Rattle.pg_ir.specs.declared.ids.InstrId.{InstrId};
@@ -16,11 +16,13 @@ use pg_ir::{Instr, Program};
 use pg_run_trace::{Step, Trace};
 use std::alloc::{AllocError, Global};
 
-/// How many registers the present call of a step's thread has before it, and the call under that; 0 where there is none.
+/// How many registers the present call of a step's thread has before it, and the call under that, 0 where there is none; and how
+/// many threads there are.
 #[derive(Clone, Copy)]
 pub struct Counts {
     pub present: usize,
     pub under: usize,
+    pub threads: usize,
 }
 
 /// The counts before a step.
@@ -31,6 +33,7 @@ fn counts_at(calls: &Calls, step: &Step) -> Counts
     Counts {
         present: calls.count(t),
         under: calls.under(t),
+        threads: calls.threads(),
     }
 }
 

@@ -4,6 +4,8 @@ pub mod SettledWithMore
 pub mod RegionSettings
 pub mod StepsInExtents
 pub mod PassedExtents
+pub mod ThreadWords
+pub mod WordsBack
 pub mod PinnedBranches
 pub mod SettledExtents
 pub mod WalkSteps

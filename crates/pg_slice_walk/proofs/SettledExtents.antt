@@ -1,5 +1,5 @@
 -- What is decided of an open extent, by what is kept of a run.
-use Rattle.std.proofs.Common.{◌≡◌, ℕ, zero, suc, ◌-◌, ◌≤◌, true, List, [], ◌∷◌, ◌++◌, length, Option, Some, refl, sym, ap, ◌∙◌, subst, arith}
+use Rattle.std.proofs.Common.{◌≡◌, ℕ, zero, suc, ◌-◌, ◌≤◌, true, List, [], ◌∷◌, ◌++◌, length, Option, Some, refl, sym, ap, ◌∙◌, subst, arith, Bool}
 use Rattle.std.specs.Prelude.{Contains, IfSome, option_map, slice_get, slice_index_or}
 use Rattle.std.proofs.lemmas.List.Elements.{Contains-append_right}
 use Rattle.pg_slice_rules.specs.Closed.{AreWithin}
@@ -30,7 +30,8 @@ use Rattle.pg_slice_walk.proofs.OpenExtents.{get_is}
 use Rattle.pg_slice_walk.proofs.StepsInExtents.{Inside, inside}
 use Rattle.pg_slice_walk.proofs.StepMoments.{get_below}
 use Rattle.pg_slice_walk.proofs.PinnedBranches.{pinned_open}
-use Rattle.pg_slice_walk.proofs.PassedExtents.{skipped}
+use Rattle.pg_slice_walk.specs.Words.{AreWordsMet}
+use Rattle.pg_slice_walk.proofs.PassedExtents.{skipped, word_skipped}
 
 some_is : {A : Type 0} (x y : A) → Some x ≡ Some y → x ≡ y
 some_is x y q = cc
@@ -148,6 +149,11 @@ module _ (R : Reference) (r : ReferenceRun) (hs : List ℕ) (counts : List Count
   skip_open e w p met =
       subst (λ (k : ℕ). AreMet (known_at R e (suc k)) w) parts.step
       (skipped R told.keeps e n m q below parts.this inside_it i.region region_is w (at_region (λ q k. Passes q t k w) p.by) met)
+
+  pub skip_words : (e : Taken) (words : List Bool) → AreWordsMet (known_at R e (suc n)) words → AreWordsMet (known_at R e (suc b)) words
+  skip_words e words a =
+      subst (λ (k : ℕ). AreWordsMet (known_at R e (suc k)) words) parts.step
+      (record { by = λ u f. word_skipped R told.keeps e n m q below parts.this inside_it i.region region_is u (a.by u f) })
 
 -- ---- a decision
 

@@ -6,5 +6,6 @@ pub mod extents;
 pub mod holders;
 pub mod marks;
 mod walk;
+mod words;
 
 pub use walk::widen;

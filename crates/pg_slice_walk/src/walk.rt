@@ -1,6 +1,6 @@
 //! The walk from the end of a run back.
 
-ghost use Rattle.std.specs.Prelude.{◌≡◌, ◌<◌, ◌≤◌, ℕ, suc, Bool, true, false, Some, IfOk, IfSome, IfNone, OnOk, length, slice_get, slice_index_or};
+ghost use Rattle.std.specs.Prelude.{◌≡◌, ◌<◌, ◌≤◌, ℕ, suc, Bool, List, true, false, Some, IfOk, IfSome, IfNone, OnOk, length, slice_get, slice_index_or};
 ghost use Rattle.pg_slice_back.specs.declared.registers.Counts.{Counts as ACounts};
 ghost use Rattle.pg_slice_back.specs.Leaves.{IsLess};
 ghost use Rattle.pg_slice_rules.specs.Closed.{AreWithin, IsClosed};
@@ -10,16 +10,19 @@ ghost use Rattle.pg_slice_decisions.specs.Steps.{AreOf, left_by, taken_by};
 ghost use Rattle.pg_slice_demands.specs.Asked.{asked_of};
 ghost use Rattle.pg_slice_replay.specs.Kept.{step_count};
 ghost use Rattle.pg_slice_passes.specs.Given.{AreSteps, EdgesStand};
+ghost use Rattle.pg_law_demands.specs.Along.{known_at};
 ghost use Rattle.pg_slice_walk.specs.Chains.{AreOlder};
+ghost use Rattle.pg_slice_walk.specs.Words.{AreWordsMet};
 ghost use Rattle.pg_slice_walk.specs.Sets.{PassesAt, SetsAt};
 ghost use Rattle.pg_slice_walk.specs.Settled.{ArePinned, AreSettled};
 ghost use Rattle.pg_slice_walk.specs.Walks.{IsTold, Walks, Widens};
 
 use crate::extents::unsettled;
 use crate::marks::{no_marks, set_mark};
+use crate::words::{back_one, no_words};
 use pg_ir::Program;
 use pg_run_trace::Trace;
-use pg_slice_back::{Call, Counts, back_live, sets_any};
+use pg_slice_back::{Call, Counts, sets_any};
 use pg_slice_decisions::DecisionSet;
 use pg_slice_demands::Demanded;
 use pg_slice_replay::ReferenceRun;
@@ -35,6 +38,7 @@ fn counts_at(counts: &[Counts], n: usize) -> Counts
         None => Counts {
             present: 0,
             under: 0,
+            threads: 0,
         },
     }
 }
@@ -112,6 +116,9 @@ fn settle_open(
     ensures passed { IfOk result (λ o. IfSome o (λ b. (R : Reference) (e : Taken) (m : Moment)
         → IsTold R r.now holders.now counts.now → slice_get R.moments n ≡ Some m → thread_in m ≡ thread
         → Walks R e (suc n) w.old (taken_by d.old) → Walks R e (suc b) w.new (taken_by d.new))) }
+    ensures words { IfOk result (λ o. IfSome o (λ b. (R : Reference) (e : Taken) (m : Moment)
+        → IsTold R r.now holders.now counts.now → slice_get R.moments n ≡ Some m → thread_in m ≡ thread
+        → (words : List Bool) → AreWordsMet (known_at R e (suc n)) words → AreWordsMet (known_at R e (suc b)) words)) }
 {
     let mut open = unsettled(alloc, holders, settled.as_slice(), n)?;
     while let Some(b) = open.pop() {
@@ -123,10 +130,12 @@ fn settle_open(
     Ok(None)
 }
 
-/// Goes back over step n, or over the whole of an extent in which it stands; gives how many steps are left.
+/// Goes back over step n, or over the whole of an extent in which it stands; gives how many steps are left. The word of a
+/// thread, its argument and then its exit value, has to be known where a start or a join hands on what has to be known.
 fn back(
     alloc: Global,
     w: &mut Demanded,
+    words: &mut Vec<bool>,
     settled: &mut Vec<bool>,
     d: &mut DecisionSet,
     p: &Program,
@@ -148,7 +157,8 @@ fn back(
     ensures settled { OnOk result (AreSettled holders.now (taken_by d.new) settled.new.items) }
     ensures fewer { IfOk result (λ k. k ≤ n) }
     ensures walks { IfOk result (λ k. (R : Reference) (e : Taken) (m : Moment) → IsTold R r.now holders.now counts.now → R.program ≡ p.now → IsClosed R e → slice_get R.moments n ≡ Some m
-        → slice_get t.now.steps n ≡ Some m.did.did → Walks R e (suc n) w.old (taken_by d.old) → Walks R e k w.new (taken_by d.new)) }
+        → slice_get t.now.steps n ≡ Some m.did.did → AreWordsMet (known_at R e (suc n)) words.old.items → Walks R e (suc n) w.old (taken_by d.old)
+        → Walks R e k w.new (taken_by d.new) × AreWordsMet (known_at R e k) words.new.items) }
 {
     let step = t.step(n);
     let passed = settle_open(alloc, w, settled, d, r, holders, counts, step.thread.0, n)?;
@@ -156,7 +166,8 @@ fn back(
         Some(b) => Ok(b + 1),
         None => {
             let x = p.instr(step.instr);
-            back_live(alloc, w, d, p, x, &step, r, counts_at(counts, n), n)?;
+            let count = counts_at(counts, n);
+            back_one(alloc, w, words, d, p, x, &step, r, count, n)?;
             Ok(n)
         }
     }
@@ -187,12 +198,14 @@ pub fn widen(
     ensures widens { OnOk result (Widens p.now r.now holders.now counts.now t.now.steps (taken_by d.old) (taken_by d.new)) }
 {
     let mut w = Demanded::new(alloc);
+    let mut words = no_words(alloc)?;
     let mut settled = no_marks(alloc, t.len())?;
     let mut n = t.len();
     while n > 0 {
         n = back(
             alloc,
             &mut w,
+            &mut words,
             &mut settled,
             d,
             p,

@@ -6,7 +6,7 @@ use Rattle.pg_slice_decisions.specs.Steps.{taken_by}
 use Rattle.pg_slice_walk.specs.Chains.{AreOlder}
 use Rattle.pg_slice_walk.specs.Settled.{ArePinned, AreSettled, Leads}
 use Rattle.pg_slice_walk.proofs.SettledWithMore.{pinned_here, pinned_more, settled_set, settled_stays}
-use Rattle.pg_slice_walk.proofs.SettledExtents.{decided, leads_down, leads_last, passed_over}
+use Rattle.pg_slice_walk.proofs.SettledExtents.{decided, leads_down, leads_last, passed_over, skip_words}
 use Rattle.pg_slice_walk.proofs.walk.settle_open.Goals as goal
 
 -- the oldest of those that are left
@@ -95,3 +95,9 @@ returns-then-decide-clause-passed c = λ R e m told q own w.
     passed_over R c.args.r.now c.args.holders.now c.args.counts.now told c.args.n m q c.args.thread own c.pop.new.self.items c.in-Some.b l.leads c.loop-b.w c.decide.new.w (taken_by c.loop-b.d)
     (taken_by c.decide.new.d) e k.less k.owed l.older
     (k.passes c.if-decide.true) (v.behind R e m told q own w)
+
+pub returns-then-decide-clause-words : goal.returns-then-decide-clause-words
+returns-then-decide-clause-words c = λ R e m told q own words a.
+    let l = last_of c.args.holders.now (taken_by c.loop-b.d) c.args.n c.loop-b.open.items c.pop.new.self.items c.pop.result c.in-Some.b c.requires.older c.in-Some.is c.pop.ensures.items
+    c.loop-b.invariant.left_open in
+    skip_words R c.args.r.now c.args.holders.now c.args.counts.now told c.args.n m q c.pop.new.self.items c.in-Some.b l.leads e words a

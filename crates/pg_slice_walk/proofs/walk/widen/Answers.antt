@@ -2,6 +2,8 @@ use Rattle.std.proofs.Common.{◌≡◌, ◌-◌, ℕ, suc, Some, refl, sym, ap,
 use Rattle.pg_slice_decisions.specs.Steps.{taken_by}
 use Rattle.pg_slice_passes.specs.Given.{reference_of}
 use Rattle.pg_run_trace.specs.declared.step.Step.{Step}
+use Rattle.pg_law_demands.specs.Along.{known_at}
+use Rattle.pg_slice_walk.specs.Words.{AreWordsMet}
 use Rattle.pg_slice_walk.specs.Walks.{Walks}
 use Rattle.pg_slice_walk.proofs.WalkSteps.{none_met}
 use Rattle.pg_slice_walk.proofs.StepMoments.{get_there, has_at}
@@ -14,10 +16,11 @@ loop-n-init c = record {
   settled = none_settled c.args.holders.now (taken_by c.args.d.now) c.in_ok-settled.settled.items _ c.in_ok-settled.ensures;
   size = c.requires.size;
   left = omega arith;
-  walks = λ regions gated input told e closed within. record {
-    met = none_met (reference_of c.args.p.now regions gated input c.args.t.now.steps) e c.len-n.result c.new-w.result c.new-w.ensures.registers c.new-w.ensures.bytes;
-    within = within;
-  };
+  walks = λ regions gated input told e closed within.
+      let R = reference_of c.args.p.now regions gated input c.args.t.now.steps in (
+        record { met = none_met R e c.len-n.result c.new-w.result c.new-w.ensures.registers c.new-w.ensures.bytes; within = within },
+        c.in_ok-words.ensures (known_at R e c.len-n.result),
+      );
 }
 
 pub loop-n-preserved : goal.loop-n-preserved
@@ -39,9 +42,10 @@ loop-n-preserved c =
           let m = has_at xs gated c.args.p.now input (c.loop-n.n - 1) x.0 x.1 in
           let z : c.loop-n.n ≡ suc (c.loop-n.n - 1) = omega (arith, c.loop-n-test.true) in
           let R = reference_of c.args.p.now regions gated input xs in
-          e.walks R d m.0 told refl closed m.1 (x.1 ∙ ap (λ (s : Step). Some s) (sym m.2))
-          (subst (λ (i : ℕ). Walks R d i c.loop-n.w (taken_by c.loop-n.d)) z (v.walks regions gated input told d closed within));
+          let before = v.walks regions gated input told d closed within in
+          e.walks R d m.0 told refl closed m.1 (x.1 ∙ ap (λ (s : Step). Some s) (sym m.2)) (subst (λ (i : ℕ). AreWordsMet (known_at R d i) c.loop-n.words.items) z before.1)
+          (subst (λ (i : ℕ). Walks R d i c.loop-n.w (taken_by c.loop-n.d)) z before.0);
     }
 
 pub returns-clause-widens : goal.returns-clause-widens
-returns-clause-widens c = record { by = λ regions gated input told e closed within. (c.loop-n.invariant.walks regions gated input told e closed within).within }
+returns-clause-widens c = record { by = λ regions gated input told e closed within. (c.loop-n.invariant.walks regions gated input told e closed within).0.within }

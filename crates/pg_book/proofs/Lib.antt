@@ -1,0 +1,4 @@
+pub mod Each
+pub mod Exact
+pub mod Lines
+pub mod Written

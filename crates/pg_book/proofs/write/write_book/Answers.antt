@@ -1,0 +1,23 @@
+use Rattle.std.proofs.Common.{◌≡◌, ◌++◌, ◌∷◌, [], List, append_assoc, codes, map, ap, sym, ◌∙◌}
+use Rattle.std.specs.Fmt.{digits}
+use Rattle.json.proofs.OnLiterals.{json_on_literals}
+use Rattle.serde_json.specs.Data.{array}
+use Rattle.serde_json.specs.Written.{compact_text}
+use Rattle.pg_book.specs.Parts.{BookEntryParts, parts_of}
+use Rattle.pg_book.specs.Texts.{book_text, each, entry_value}
+use Rattle.pg_book.proofs.write.write_book.Goals as goal
+
+-- the text of a book round that of its list of entries
+in_parts : (es : List BookEntryParts) → book_text es ≡ codes "{\"entries\":" ++ (compact_text (array (each entry_value es)) ++ codes ",\"peregrine\":1}\n")
+unfolding digits json_on_literals
+in_parts es = ap (λ rest. codes "{\"entries\":" ++ rest) (append_assoc (compact_text (array (each entry_value es))) (codes ",\"peregrine\":1}") (10 ∷ []))
+
+pub returns : goal.returns
+returns c =
+    let es = map parts_of c.args.book.now.entries.items in
+    let head = codes "{\"entries\":" in
+    let list = compact_text (array (each entry_value es)) in
+    let tail = codes ",\"peregrine\":1}\n" in
+    let listed = c.in_ok-add_entries.ensures ∙ ap (λ xs. c.extend_from_slice.new.self.items ++ compact_text (array (each entry_value (map parts_of xs)))) c.as_slice.ensures.value in
+    let headed = c.in_ok-extend_from_slice.ensures.items ∙ ap (λ t. t ++ head) c.new-text.ensures.items in
+    c.in_ok-extend_from_slice-2.ensures.items ∙ ap (λ t. t ++ tail) (listed ∙ ap (λ t. t ++ list) headed) ∙ append_assoc head list tail ∙ sym (in_parts es)

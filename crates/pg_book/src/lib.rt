@@ -1,0 +1,14 @@
+//! A book: what is kept of a session's entries, as JSON.
+//!
+//! Every entry of a book is derived anew by whoever loads it, so nothing of the file is trusted.
+#![tactic(auto)]
+
+mod book;
+pub mod laws;
+mod read;
+mod values;
+mod write;
+
+pub use book::{Book, BookEntry};
+pub use read::{BookFault, read_book};
+pub use write::write_book;
