@@ -98,10 +98,11 @@ class Build:
 
     def memory_of(self, crate, jobs):
         """Returns about the most bytes that a check of a crate takes. Crates of up to 2,400 lines of code took 0.7 to
-        2.4 GB; this is as much for the dearest, and up to three times as much for laws."""
-        below = sum(self.sizes[it].code for it in self.tree.below(crate))
-        size = self.sizes[crate]
-        one = 900_000_000 + 500_000 * size.code + 120_000 * size.proofs + 20_000 * below
+        2.4 GB, and the program, for which the code of all libraries is read, 3.2 GB; this is as much for the dearest, and
+        up to three times as much for laws."""
+        size, below = self.sizes[crate], sum(self.sizes[it].code for it in self.tree.below(crate))
+        of_libraries = below * (50_000 if crate == PROGRAM else 20_000)
+        one = 900_000_000 + 500_000 * size.code + 120_000 * size.proofs + of_libraries
         return int(one * (1 + (jobs - 1) / 3))
 
     def fits(self, crate, jobs):
