@@ -164,13 +164,15 @@ def run(tree):
     if not os.path.isfile(program) or text_of(mark) != mark_of_program(key, program):
         say("compiling the sources without a proof; this takes one to three minutes, once")
         os.makedirs(kept, exist_ok=True)
-        with tempfile.TemporaryDirectory(prefix="room-", dir=kept) as room:
+        # (not below out/, where rt refuses links)
+        with tempfile.TemporaryDirectory(prefix="peregrine-") as room:
             try:
                 compile_program(tree, room)
             except NoWay as why:
                 say(f"the toolchain's own trial run is asked, which keeps nothing, since {why}")
                 return NO_WAY
-            os.replace(f"{room}/{PROGRAM}", program)
+            shutil.copy2(f"{room}/{PROGRAM}", f"{program}.new")
+        os.replace(f"{program}.new", program)
         write(mark, mark_of_program(key, program))
     # a text that changes from here on is newer than the program
     os.utime(program, (began, began))
