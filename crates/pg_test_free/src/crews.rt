@@ -23,7 +23,7 @@ struct Row {
     end: Outcome,
 }
 
-const ROWS: [Row; 9] = [
+const ROWS: [Row; 8] = [
     Row {
         sample: Sample::RacingStores,
         input: &[0],
@@ -84,15 +84,6 @@ const ROWS: [Row; 9] = [
         sample: Sample::Circle,
         input: &[],
         thread: 0,
-        output: b"",
-        events: 1,
-        end: Outcome::Refused(Refusal::Budget),
-    },
-    // Each round takes one step, so main goes on alone after the last round.
-    Row {
-        sample: Sample::Circle,
-        input: &[],
-        thread: 1,
         output: b"",
         events: 1,
         end: Outcome::Refused(Refusal::Budget),
