@@ -1,5 +1,5 @@
 -- The words at rest, and made ready for a run.
-use Rattle.std.proofs.Common.{◌≡◌, ◌≢◌, ℕ, zero, suc, [], ◌∷◌, ◌+◌, ◌-◌, ◌*◌, ◌/◌, ◌%◌, ◌^◌, ◌<◌, ◌≤◌, ◌⊎◌, inl, inr, ⊎_elim, true, length, List, set, refl, sym, ap, ◌∙◌, subst, arith, length-set, get_or-set_same, get_or-set_other}
+use Rattle.std.proofs.Common.{◌≡◌, ◌≢◌, ℕ, zero, suc, [], ◌∷◌, ◌+◌, ◌-◌, ◌*◌, ◌/◌, ◌%◌, ◌^◌, ◌<◌, ◌≤◌, ◌⊎◌, inl, inr, ⊎_elim, true, length, List, set, refl, sym, ap, ◌∙◌, subst, arith, length-set, get_or-set_same, get_or-set_other, le_of_eq}
 use Rattle.std.specs.Prelude.{slice_get, slice_index}
 use Rattle.std.specs.List.{AllByRecursion as AllOf}
 use Rattle.std.proofs.lemmas.Bool.{cases_lt, cases_eq, lt-ltb, le-ltb}
@@ -27,10 +27,10 @@ use Rattle.pg_words.specs.Calls.{AllowsLoad, AllowsStore, NoSlot, granule_word}
 use Rattle.pg_words.specs.declared.layout.TheConstants.{GRANULE_WORDS, THREAD_WORDS, TURN_WORD, WORD_COUNT}
 use Rattle.pg_seats.specs.declared.run.Run.{Run}
 use Rattle.pg_seats.specs.declared.run.View.{View}
-use Rattle.pg_seats.specs.declared.run.View.TheVariants.{Idle, Laying, Pool, Worker, Note, Spent}
+use Rattle.pg_seats.specs.declared.run.View.TheVariants.{Idle, Laying, Pool, Worker, Note, Sweeping, Spent}
 use Rattle.pg_seats.specs.Plan.{IsEnforced, first_of, plan_of, turns_in}
-use Rattle.pg_seats.specs.Views.{may_begin, MayLay, MayOpen}
-use Rattle.pg_seats.specs.Rule.{cell_in, Fits, Holds, IsAlone, Keeps, Lays, Rests, Seats}
+use Rattle.pg_seats.specs.Views.{may_begin, MayLay, MayOpen, epoch_of}
+use Rattle.pg_seats.specs.Rule.{cell_in, Fits, Holds, IsAlone, Keeps, Lays, Rests, Seats, IsOld}
 use Rattle.pg_seats.specs.Plays as plays
 use Rattle.pg_seats.specs.Plays.{Place}
 use Rattle.pg_seats.proofs.Cells.{set_same}
@@ -38,52 +38,99 @@ use Rattle.pg_seats.proofs.Parts.{turn_none}
 
 -- ---- the first words
 
-one_view : (v : View) → IsAlone v (v ∷ [])
-one_view v = record { only = only; one = one }
+one_view : (v : View) (e : ℕ) → IsAlone v e (v ∷ [])
+one_view v e = record { only = only; one = one }
   where
-    only : (id : ℕ) (u : View) → get_elem? (v ∷ []) id ≡ some u → (u ≡ v) ⊎ (u ≡ Spent)
-    only zero u e = inl (sym (some-injective v u e))
-    only (suc k) u e = absurd (some-ne-none u (sym e))
+    only : (id : ℕ) (u : View) → get_elem? (v ∷ []) id ≡ some u → (u ≡ v) ⊎ ((u ≡ Spent) ⊎ IsOld e u)
+    only zero u f = inl (sym (some-injective v u f))
+    only (suc k) u f = absurd (some-ne-none u (sym f))
 
     one : (i j : ℕ) → get_elem? (v ∷ []) i ≡ some v → get_elem? (v ∷ []) j ≡ some v → i ≡ j
-    one zero zero e f = refl
-    one zero (suc j) e f = absurd (some-ne-none v (sym f))
-    one (suc i) j e f = absurd (some-ne-none v (sym e))
+    one zero zero f g = refl
+    one zero (suc j) f g = absurd (some-ne-none v (sym g))
+    one (suc i) j f g = absurd (some-ne-none v (sym f))
 
-pub at_rest : (words : List ℕ) → length words ≡ WORD_COUNT → ((i : ℕ) → slice_index words i ≡ 0) → Holds (opening {S = NoSlot} words [] Idle)
-at_rest words wide zeros = inl (record { wide = wide; zeros = zeros; alone = one_view Idle })
+pub none_byte : (k : ℕ) → byte_of 0 k ≡ 0
+none_byte k = omega arith
+
+zero_byte : (word k : ℕ) → word ≡ 0 → byte_of word k ≡ 0
+zero_byte word k e = ap (λ n. byte_of n k) e ∙ none_byte k
+
+pub at_rest : (words : List ℕ) → length words ≡ WORD_COUNT → ((i : ℕ) → slice_index words i ≡ 0) → Holds (opening {S = NoSlot} words [] (Idle 0))
+at_rest words wide zeros = inl (
+  0,
+  record {
+    wide = wide;
+    heads = λ i l. zeros i;
+    zeros = λ g c j l. zero_byte (slice_index words (GRANULE_WORDS + g)) j (zeros (GRANULE_WORDS + g));
+    alone = one_view (Idle 0) 0;
+  },
+)
 
 -- ---- one seat that is alone
 
-alone_set : (v u : View) (views : List View) (id : ℕ) → IsAlone v views → get_elem? views id ≡ some v → u ≢ Spent → IsAlone u (set views id u)
-alone_set v u views id h at ne = record {
-  only = λ k x e. ⊎_elim (λ t. inl (sym t.1)) (λ t. ⊎_elim (λ q. absurd (t.0 (h.one k id (t.1 ∙ ap some q) at))) (λ q. inr q) (h.only k x t.1)) (at_set views id k u x e);
-  one = λ i j e f. here i e ∙ sym (here j f);
+old_kept : (e f : ℕ) (u : View) → e ≤ f → IsOld e u → IsOld f u
+old_kept e f (Note r n) l h = omega arith
+old_kept e f (Idle q) l h = h
+old_kept e f (Laying q n) l h = h
+old_kept e f (Pool q n m) l h = h
+old_kept e f (Worker w) l h = h
+old_kept e f (Sweeping q n) l h = h
+old_kept e f Spent l h = h
+
+-- a view that is alone becomes another, which is no old note
+pub alone_set : (v u : View) (e f : ℕ) (views : List View) (id : ℕ) → IsAlone v e views → get_elem? views id ≡ some v → e ≤ f → u ≢ Spent → (IsOld e u → ⊥) → IsAlone u f (set views id u)
+alone_set v u e f views id h at le ne old = record {
+  only = λ k x g. ⊎_elim (λ t. inl (sym t.1)) (λ t. other k x t.0 t.1 (h.only k x t.1)) (at_set views id k u x g);
+  one = λ i j g k. here i g ∙ sym (here j k);
 }
   where
+    other : (k : ℕ) (x : View) → k ≢ id → get_elem? views k ≡ some x → (x ≡ v) ⊎ ((x ≡ Spent) ⊎ IsOld e x) → (x ≡ u) ⊎ ((x ≡ Spent) ⊎ IsOld f x)
+    other k x n g (inl q) = absurd (n (h.one k id (g ∙ ap some q) at))
+    other k x n g (inr (inl q)) = inr (inl q)
+    other k x n g (inr (inr q)) = inr (inr (old_kept e f x le q))
+
+    there : (i : ℕ) → get_elem? views i ≡ some u → (u ≡ v) ⊎ ((u ≡ Spent) ⊎ IsOld e u) → i ≡ id
+    there i g (inl q) = h.one i id (g ∙ ap some q) at
+    there i g (inr (inl q)) = absurd (ne q)
+    there i g (inr (inr q)) = absurd (old q)
+
     here : (i : ℕ) → get_elem? (set views id u) i ≡ some u → i ≡ id
-    here i e = ⊎_elim (λ t. t.0) (λ t. ⊎_elim (λ q. h.one i id (t.1 ∙ ap some q) at) (λ q. absurd (ne q)) (h.only i u t.1)) (at_set views id i u u e)
+    here i g = ⊎_elim (λ t. t.0) (λ t. there i t.1 (h.only i u t.1)) (at_set views id i u u g)
 
-laying_alive : (r : Run) (n : ℕ) → Laying r n ≢ Spent
-laying_alive r n e = absurd cc
+epoch_is : (e f : ℕ) → Idle e ≡ Idle f → e ≡ f
+epoch_is e f q = cc
 
-idle_rests : (s : State NoSlot View) (id : ℕ) → Holds s → get_elem? s.views id ≡ some Idle → Rests s.words s.views
-idle_rests s id (inl h) at = h
-idle_rests s id (inr (run, inl (n, h))) at = absurd (not_so (h.alone.only id Idle at))
+idle_rests : (s : State NoSlot View) (id e : ℕ) → Holds s → get_elem? s.views id ≡ some (Idle e) → Rests e s.words s.views
+idle_rests s id e (inl (f, h)) at = go (h.alone.only id (Idle e) at)
   where
-    not_so : (Idle ≡ Laying run n) ⊎ (Idle ≡ Spent) → ⊥
-    not_so (inl e) = absurd cc
-    not_so (inr e) = absurd cc
-idle_rests s id (inr (run, inr h)) at = absurd (h.fits id Idle at)
+    go : (Idle e ≡ Idle f) ⊎ ((Idle e ≡ Spent) ⊎ IsOld f (Idle e)) → Rests e s.words s.views
+    go (inl q) = subst (λ k. Rests k s.words s.views) (sym (epoch_is e f q)) h
+    go (inr (inl q)) = absurd cc
+    go (inr (inr q)) = absurd q
+idle_rests s id e (inr (run, inl (n, h))) at = absurd (not_so (h.alone.only id (Idle e) at))
+  where
+    not_so : (Idle e ≡ Laying run n) ⊎ ((Idle e ≡ Spent) ⊎ IsOld run.epoch (Idle e)) → ⊥
+    not_so (inl q) = absurd cc
+    not_so (inr (inl q)) = absurd cc
+    not_so (inr (inr q)) = q
+idle_rests s id e (inr (run, inr (inl h))) at = absurd (h.fits id (Idle e) at)
+idle_rests s id e (inr (run, inr (inr (k, h)))) at = absurd (not_so (h.alone.only id (Idle e) at))
+  where
+    not_so : (Idle e ≡ Sweeping run k) ⊎ ((Idle e ≡ Spent) ⊎ IsOld (suc run.epoch) (Idle e)) → ⊥
+    not_so (inl q) = absurd cc
+    not_so (inr (inl q)) = absurd cc
+    not_so (inr (inr q)) = q
 
-pub begins : (run : Run) → IsEnforced run → (id : ℕ) (me : Place) → may_begin me.0 ≡ true → AllowsLoad Holds id me TURN_WORD (λ _ before _ after. after ≡ (Laying run 0, before.1))
-begins run ok id (Laying q n, l) e = absurd cc
-begins run ok id (Pool q n, l) e = absurd cc
-begins run ok id (Worker w, l) e = absurd cc
-begins run ok id (Note q n, l) e = absurd cc
-begins run ok id (Spent, l) e = absurd cc
-begins run ok id (Idle, l) e = λ s holds len at small.
-    let h = idle_rests s id holds at in (
+pub begins : (run : Run) → IsEnforced run → (id : ℕ) (me : Place) → may_begin me.0 ≡ true → epoch_of me.0 ≡ run.epoch → AllowsLoad Holds id me TURN_WORD (λ _ before _ after. after ≡ (Laying run 0, before.1))
+begins run ok id (Laying q n, l) e f = absurd cc
+begins run ok id (Pool q n m, l) e f = absurd cc
+begins run ok id (Worker w, l) e f = absurd cc
+begins run ok id (Note q n, l) e f = absurd cc
+begins run ok id (Sweeping q n, l) e f = absurd cc
+begins run ok id (Spent, l) e f = absurd cc
+begins run ok id (Idle epoch, l) e f = λ s holds len at small.
+    let h = idle_rests s id epoch holds at in (
       Laying run 0,
       keeps,
       tt,
@@ -94,10 +141,10 @@ begins run ok id (Idle, l) e = λ s holds len at small.
           record {
             run_is = ok;
             wide = length-set s.words TURN_WORD (slice_index s.words TURN_WORD) ∙ h.wide;
-            threads = λ i j. ap (λ ws. slice_index ws i) (set_same s.words TURN_WORD) ∙ h.zeros i;
+            heads = λ i j. ap (λ ws. slice_index ws i) (set_same s.words TURN_WORD) ∙ h.heads i j;
             bytes = λ b j. absurd (omega arith);
-            zeros = λ k j. ap (λ ws. slice_index ws (GRANULE_WORDS + k)) (set_same s.words TURN_WORD) ∙ h.zeros (GRANULE_WORDS + k);
-            alone = alone_set Idle (Laying run 0) s.views id h.alone at (laying_alive run 0);
+            zeros = λ g j c i k. ap (λ ws. byte_of (slice_index ws (GRANULE_WORDS + g)) i) (set_same s.words TURN_WORD) ∙ h.zeros g c i k;
+            alone = alone_set (Idle epoch) (Laying run 0) epoch run.epoch s.views id h.alone at (le_of_eq f) (λ q. absurd cc) (λ q. q);
           },
         ),
       ),
@@ -110,24 +157,30 @@ run_of_laying : (r q : Run) (n m : ℕ) → Laying r n ≡ Laying q m → (r ≡
 run_of_laying r q n m e = (cc, cc)
 
 lying : (s : State NoSlot View) (id : ℕ) (r : Run) (n : ℕ) → Holds s → get_elem? s.views id ≡ some (Laying r n) → Lays r n s.words s.views
-lying s id r n (inl h) at = absurd (not_so (h.alone.only id (Laying r n) at))
+lying s id r n (inl (e, h)) at = absurd (not_so (h.alone.only id (Laying r n) at))
   where
-    not_so : (Laying r n ≡ Idle) ⊎ (Laying r n ≡ Spent) → ⊥
-    not_so (inl e) = absurd cc
-    not_so (inr e) = absurd cc
+    not_so : (Laying r n ≡ Idle e) ⊎ ((Laying r n ≡ Spent) ⊎ IsOld e (Laying r n)) → ⊥
+    not_so (inl q) = absurd cc
+    not_so (inr (inl q)) = absurd cc
+    not_so (inr (inr q)) = q
 lying s id r n (inr (run, inl (m, h))) at = go (h.alone.only id (Laying r n) at)
   where
-    go : (Laying r n ≡ Laying run m) ⊎ (Laying r n ≡ Spent) → Lays r n s.words s.views
+    go : (Laying r n ≡ Laying run m) ⊎ ((Laying r n ≡ Spent) ⊎ IsOld run.epoch (Laying r n)) → Lays r n s.words s.views
     go (inl e) = let q = run_of_laying r run n m e in subst (λ k. Lays r k s.words s.views) (sym q.1) (subst (λ (p : Run). Lays p m s.words s.views) (sym q.0) h)
-    go (inr e) = absurd (laying_alive r n e)
-lying s id r n (inr (run, inr h)) at = absurd (h.fits id (Laying r n) at)
-
-none_byte : (k : ℕ) → byte_of 0 k ≡ 0
-none_byte k = omega arith
+    go (inr (inl e)) = absurd cc
+    go (inr (inr e)) = absurd e
+lying s id r n (inr (run, inr (inl h))) at = absurd (h.fits id (Laying r n) at)
+lying s id r n (inr (run, inr (inr (k, h)))) at = absurd (not_so (h.alone.only id (Laying r n) at))
+  where
+    not_so : (Laying r n ≡ Sweeping run k) ⊎ ((Laying r n ≡ Spent) ⊎ IsOld (suc run.epoch) (Laying r n)) → ⊥
+    not_so (inl q) = absurd cc
+    not_so (inr (inl q)) = absurd cc
+    not_so (inr (inr q)) = q
 
 pub lays : (id : ℕ) (me : Place) (r : ByteRange) (word : ℕ) → r.start / 8 < GRANULE_COUNT → MayLay me.0 (r.start / 8) word → AllowsStore Holds id me (granule_word r) word plays.Lays
-lays id (Idle, l) r word inside e = absurd e
-lays id (Pool q n, l) r word inside e = absurd e
+lays id (Idle z, l) r word inside e = absurd e
+lays id (Pool q n m, l) r word inside e = absurd e
+lays id (Sweeping q n, l) r word inside e = absurd e
 lays id (Worker w, l) r word inside e = absurd e
 lays id (Note q n, l) r word inside e = absurd e
 lays id (Spent, l) r word inside e = absurd e
@@ -144,10 +197,10 @@ lays id (Laying q n, l) r word inside e = λ s holds len at small.
     laid_more s h at = record {
       run_is = h.run_is;
       wide = length-set s.words (granule_word r) word ∙ h.wide;
-      threads = λ i j. other i (λ z. omega arith) ∙ h.threads i j;
+      heads = λ i j. other i (λ z. omega arith) ∙ h.heads i j;
       bytes = λ b j. byte b (cases_eq (b / 8) (r.start / 8)) j;
-      zeros = λ i j. other (GRANULE_WORDS + i) (λ z. omega arith) ∙ h.zeros i (let m = e.0 in omega arith);
-      alone = alone_set (Laying q n) (Laying q (suc (r.start / 8))) s.views id h.alone at (laying_alive q (suc (r.start / 8)));
+      zeros = λ g j c i k. ap (λ v. byte_of v i) (other (GRANULE_WORDS + g) (λ z. omega arith)) ∙ h.zeros g (let m = e.0 in omega arith) c i k;
+      alone = alone_set (Laying q n) (Laying q (suc (r.start / 8))) q.epoch q.epoch s.views id h.alone at (omega arith) (λ z. absurd cc) (λ z. z);
     }
       where
         other : (i : ℕ) → i ≢ granule_word r → slice_index (set s.words (granule_word r) word) i ≡ slice_index s.words i
@@ -166,7 +219,7 @@ lays id (Laying q n, l) r word inside e = λ s holds len at small.
             old : (b < 8 * n) ⊎ (8 * n ≤ b) → byte_of (slice_index s.words (GRANULE_WORDS + b / 8)) (b % 8) ≡ initial_byte q.program.globals b
             old (inl m) = h.bytes b m
             old (inr m) =
-                ap (λ v. byte_of v (b % 8)) (h.zeros (b / 8) (omega arith)) ∙ none_byte (b % 8)
+                h.zeros (b / 8) (omega arith) (omega arith) (b % 8) (omega arith)
                 ∙ sym (e.1 b m (below (cases_lt b (8 * (r.start / 8)))))
               where
                 below : (b < 8 * (r.start / 8)) ⊎ (8 * (r.start / 8) ≤ b) → b < 8 * (r.start / 8)
@@ -212,7 +265,7 @@ none_stands r = record {
   below = below_open (times deeds (turns_in r) 0 (plan_of r));
 }
 
-first_byte : (p : NumberedProgram) (b : ℕ) → ((i : ℕ) → initial_byte p.globals i < 2 ^ 8) → b < MEMORY_BYTES → cell_at (initial p) b ≡ initial_byte p.globals b
+pub first_byte : (p : NumberedProgram) (b : ℕ) → ((i : ℕ) → initial_byte p.globals i < 2 ^ 8) → b < MEMORY_BYTES → cell_at (initial p) b ≡ initial_byte p.globals b
 unfolding initial memory.initial
 first_byte p b small l = rw (lt-ltb b MEMORY_BYTES l) (byte_at-memory_of (initial_byte p.globals) b small l)
 
@@ -231,44 +284,61 @@ module _ (r : Run) (words : List ℕ) (views : List View) (n id : ℕ) (h : Lays
     where
       byte : b < MEMORY_BYTES → (b < 8 * n) ⊎ (8 * n ≤ b) → byte_of (slice_index words (GRANULE_WORDS + b / 8)) (b % 8) ≡ initial_byte r.program.globals b
       byte l (inl m) = h.bytes b m
-      byte l (inr m) = ap (λ v. byte_of v (b % 8)) (h.zeros (b / 8) (omega arith)) ∙ none_byte (b % 8) ∙ sym (zeros b m l)
+      byte l (inr m) = h.zeros (b / 8) (omega arith) (omega arith) (b % 8) (omega arith) ∙ sym (zeros b m l)
 
       go : (b < MEMORY_BYTES) ⊎ (MEMORY_BYTES ≤ b) → cell_in words b ≡ cell_at (initial r.program) b
       go (inl l) = (rw (lt-ltb b MEMORY_BYTES l) (byte l (cases_lt b (8 * n)))) ∙ sym (first_byte r.program b (λ i. byte_first r.program.globals i h.run_is.can.bytes) l)
-      go (inr l) = (rw (le-ltb b MEMORY_BYTES l) (h.threads (THREAD_WORDS + (b - MEMORY_BYTES)) (omega arith))) ∙ sym (first_word r.program b l)
+      go (inr l) = (rw (le-ltb b MEMORY_BYTES l) (h.heads (THREAD_WORDS + (b - MEMORY_BYTES)) (omega arith))) ∙ sym (first_word r.program b l)
 
   abbrev pub no_seats : Seats
-  no_seats = record { made = 0; pool = id; seat = λ t. 0; parts = λ t. 0 }
+  no_seats = record { made = 0; gone = 0; pool = id; seat = λ t. 0; parts = λ t. 0 }
 
-  pub opened : Keeps r words (set views id (Pool r 0))
+  pub opened : Keeps r words (set views id (Pool r 0 0))
   opened = record {
     run_is = h.run_is;
     wide = h.wide;
     turns = 0;
-    clock = h.threads TURN_WORD (omega arith);
+    clock = h.heads TURN_WORD (omega arith);
     bound = omega arith;
     stands = none_stands r;
     seats = no_seats;
     fits = λ k v e. ⊎_elim
-        (λ t. subst (λ y. Fits r no_seats (done_of (none_stands r)) 0 k y) t.1 (refl, t.0, refl))
-        (λ t. ⊎_elim (λ q. absurd (t.0 (h.alone.one k id (t.1 ∙ ap some q) at))) (λ q. subst (λ y. Fits r no_seats (done_of (none_stands r)) 0 k y) (sym q) tt) (h.alone.only k v t.1))
-        (at_set views id k (Pool r 0) v e);
-    seated = λ t l. absurd (omega arith);
+        (λ t. subst (λ y. Fits r no_seats (done_of (none_stands r)) 0 k y) t.1 (refl, t.0, refl, refl))
+        (λ t. rest k v t.0 t.1 (h.alone.only k v t.1))
+        (at_set views id k (Pool r 0 0) v e);
+    few_gone = omega arith;
+    seated = λ t l g. absurd (omega arith);
+    gathered = λ t l. refl;
     unseated = λ t l. (count_open (times deeds (turns_in r) 0 (plan_of r)) t, refl);
     memory = λ b lt. cells b lt ∙ sym (turn_none r (done_of (none_stands r)) (λ t. 0) (slice_get (turns_in r) 0) b ((left_by (first_of r) (none_stands r)).cells b) (λ t e. refl)
         ∙ ap (λ l. (Rattle.pg_law_threads.specs.Effects.effects (first_of r) (did_of l)).cells b) (kept_open (times deeds (turns_in r) 0 (plan_of r))));
   }
+    where
+      old : (k : ℕ) (v : View) → IsOld r.epoch v → Fits r no_seats (done_of (none_stands r)) 0 k v
+      old k (Note p m) q = inr q
+      old k (Idle p) q = q
+      old k (Laying p m) q = q
+      old k (Pool p m i) q = absurd q
+      old k (Worker w) q = absurd q
+      old k (Sweeping p m) q = q
+      old k Spent q = tt
+
+      rest : (k : ℕ) (v : View) → k ≢ id → get_elem? views k ≡ some v → (v ≡ Laying r n) ⊎ ((v ≡ Spent) ⊎ IsOld r.epoch v) → Fits r no_seats (done_of (none_stands r)) 0 k v
+      rest k v ne g (inl q) = absurd (ne (h.alone.one k id (g ∙ ap some q) at))
+      rest k v ne g (inr (inl q)) = subst (λ y. Fits r no_seats (done_of (none_stands r)) 0 k y) (sym q) tt
+      rest k v ne g (inr (inr q)) = old k v q
 
 pub opens : (id : ℕ) (me : Place) → MayOpen me.0 → AllowsLoad Holds id me TURN_WORD plays.Opens
-opens id (Idle, l) e = absurd e
-opens id (Pool q n, l) e = absurd e
+opens id (Idle z, l) e = absurd e
+opens id (Pool q n m, l) e = absurd e
+opens id (Sweeping q n, l) e = absurd e
 opens id (Worker w, l) e = absurd e
 opens id (Note q n, l) e = absurd e
 opens id (Spent, l) e = absurd e
 opens id (Laying q n, l) e = λ s holds len at small. (
-  Pool q 0,
+  Pool q 0 0,
   keeps,
   tt,
-  inr (q, inr (subst (λ ws. Keeps q ws (set s.views id (Pool q 0))) (sym (set_same s.words TURN_WORD)) (opened q s.words s.views n id (lying s id q n holds at) at e))),
+  inr (q, inr (inl (subst (λ ws. Keeps q ws (set s.views id (Pool q 0 0))) (sym (set_same s.words TURN_WORD)) (opened q s.words s.views n id (lying s id q n holds at) at e)))),
   refl,
 )

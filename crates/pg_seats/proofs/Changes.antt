@@ -16,7 +16,7 @@ use Rattle.pg_words.specs.declared.layout.TheConstants.{TURN_WORD}
 use Rattle.pg_seats.specs.declared.run.Run.{Run}
 use Rattle.pg_seats.specs.declared.run.Standing.{Standing}
 use Rattle.pg_seats.specs.declared.run.View.{View}
-use Rattle.pg_seats.specs.declared.run.View.TheVariants.{Idle, Laying, Pool, Worker, Note, Spent}
+use Rattle.pg_seats.specs.declared.run.View.TheVariants.{Idle, Laying, Pool, Worker, Note, Sweeping, Spent}
 use Rattle.pg_seats.specs.Plan.{IsEnforced, first_of, own_of, plan_of, turns_in}
 use Rattle.pg_seats.specs.Views.{fits, is_due, is_turn, needed, next_of}
 use Rattle.pg_seats.specs.Rule.{cell_in, Seats, IsSeated, Fits, HasSeat, Keeps, over_turn}
@@ -80,21 +80,25 @@ module _ (run : Run) (words : List ℕ) (views : List View) (h : Keeps run words
     where
       go : (t < h.seats.made) ⊎ (h.seats.made ≤ t) → Due run t (done_of h.stands t) h.turns
       go (inr l) = let e = (h.unseated t l).1 in absurd (omega arith)
-      go (inl l) =
-          let s = h.seated t l in
-          let f : IsSeated run h.seats (done_of h.stands) h.turns (h.seats.seat t) s.standing = h.fits (h.seats.seat t) (Worker s.standing) s.view in
-          let p = f.parts_is in
-          let q : s.standing.parts ≡ h.seats.parts t = p ∙ ap h.seats.parts s.thread in
-          let d = due_next s.standing h.turns (f.due (f.some_parts (omega arith))) in
-          subst (λ k. Due run t k h.turns) (f.done_is ∙ ap (done_of h.stands) s.thread)
-          (subst (λ k. Due run k s.standing.done h.turns) s.thread (subst (λ (r : Run). Due r s.standing.thread s.standing.done h.turns) f.same_run d))
+      go (inl l) = seated (cases_lt t h.seats.gone)
+        where
+          seated : (t < h.seats.gone) ⊎ (h.seats.gone ≤ t) → Due run t (done_of h.stands t) h.turns
+          seated (inl g) = let e = h.gathered t g in absurd (omega arith)
+          seated (inr g) =
+              let s = h.seated t l g in
+              let f : IsSeated run h.seats (done_of h.stands) h.turns (h.seats.seat t) s.standing = h.fits (h.seats.seat t) (Worker s.standing) s.view in
+              let p = f.parts_is in
+              let q : s.standing.parts ≡ h.seats.parts t = p ∙ ap h.seats.parts s.thread in
+              let d = due_next s.standing h.turns (f.due (f.some_parts (omega arith))) in
+              subst (λ k. Due run t k h.turns) (f.done_is ∙ ap (done_of h.stands) s.thread)
+              (subst (λ k. Due run k s.standing.done h.turns) s.thread (subst (λ (r : Run). Due r s.standing.thread s.standing.done h.turns) f.same_run d))
 
   module _ (id : ℕ) (w : Standing) (at : get_elem? views id ≡ some (Worker w)) where
     pub seat : IsSeated run h.seats (done_of h.stands) h.turns id w
     seat = h.fits id (Worker w) at
 
     abbrev pub seats_with : ℕ → Seats
-    seats_with parts = record { made = h.seats.made; pool = h.seats.pool; seat = h.seats.seat; parts = put_at h.seats.parts w.thread parts }
+    seats_with parts = record { made = h.seats.made; gone = h.seats.gone; pool = h.seats.pool; seat = h.seats.seat; parts = put_at h.seats.parts w.thread parts }
 
     -- the view becomes w', the words ws, and so many turns are done
     pub record Change (w' : Standing) (ws : List ℕ) (g : ℕ) : Type 0 where
@@ -122,6 +126,7 @@ module _ (run : Run) (words : List ℕ) (views : List View) (h : Keeps run words
         same_run = c.run_is;
         seated = seat.seated ∙ ap h.seats.seat (sym c.thread_is);
         made = subst (λ t. t < h.seats.made) (sym c.thread_is) seat.made;
+        left = subst (λ t. h.seats.gone ≤ t) (sym c.thread_is) seat.left;
         done_is = c.own_done ∙ ap (done_of c.stands) (sym c.thread_is);
         parts_is = sym (put_here h.seats.parts w.thread w'.parts w'.thread c.thread_is);
         due = c.due;
@@ -131,15 +136,18 @@ module _ (run : Run) (words : List ℕ) (views : List View) (h : Keeps run words
       }
 
       others : (k : ℕ) (v : View) → k ≢ id → Fits run h.seats (done_of h.stands) h.turns k v → Fits run (seats_with w'.parts) (done_of c.stands) g k v
-      others k Idle ne f = f
+      others k (Idle e) ne f = f
       others k (Laying r n) ne f = f
-      others k (Pool r n) ne f = f
-      others k (Note r n) ne f = (f.0, (let l = f.1 in let m = c.later in omega arith))
+      others k (Sweeping r n) ne f = f
+      others k (Pool r n m) ne f = f
+      others k (Note r n) ne (inl f) = inl (f.0, (let l = f.1 in let m = c.later in omega arith))
+      others k (Note r n) ne (inr f) = inr f
       others k Spent ne f = f
       others k (Worker u) ne f = record {
         same_run = f.same_run;
         seated = f.seated;
         made = f.made;
+        left = f.left;
         done_is = f.done_is ∙ sym (c.others_done u.thread apart);
         parts_is = f.parts_is ∙ sym (put_else h.seats.parts w.thread w'.parts u.thread apart);
         due = λ e. c.others_due u apart f.same_run (f.due e);
@@ -151,11 +159,11 @@ module _ (run : Run) (words : List ℕ) (views : List View) (h : Keeps run words
           apart : u.thread ≢ w.thread
           apart q = ne (f.seated ∙ ap h.seats.seat q ∙ sym seat.seated)
 
-      seat_of : (t : ℕ) → t < h.seats.made → HasSeat (set views id (Worker w')) (seats_with w'.parts) t
-      seat_of t l = go (cases_eq (h.seats.seat t) id)
+      seat_of : (t : ℕ) → t < h.seats.made → h.seats.gone ≤ t → HasSeat (set views id (Worker w')) (seats_with w'.parts) t
+      seat_of t l g = go (cases_eq (h.seats.seat t) id)
         where
           s : HasSeat views h.seats t
-          s = h.seated t l
+          s = h.seated t l g
 
           go : (h.seats.seat t ≡ id) ⊎ (h.seats.seat t ≡ id → ⊥) → HasSeat (set views id (Worker w')) (seats_with w'.parts) t
           go (inl e) = record {
@@ -184,7 +192,9 @@ module _ (run : Run) (words : List ℕ) (views : List View) (h : Keeps run words
             (λ t. subst (λ y. Fits run (seats_with w'.parts) (done_of c.stands) g k y) t.1 (subst (λ n. Fits run (seats_with w'.parts) (done_of c.stands) g n (Worker w')) (sym t.0) mine))
             (λ t. others k v t.0 (h.fits k v t.1))
             (at_set views id k (Worker w') v e);
+        few_gone = h.few_gone;
         seated = seat_of;
+        gathered = λ t l. put_else h.seats.parts w.thread w'.parts t (λ e. let m = seat.left in omega arith) ∙ h.gathered t l;
         unseated = λ t l. (
           c.others_done t (λ e. let m = seat.made in omega arith) ∙ (h.unseated t l).0,
           put_else h.seats.parts w.thread w'.parts t (λ e. let m = seat.made in omega arith) ∙ (h.unseated t l).1,

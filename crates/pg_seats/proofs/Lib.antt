@@ -13,3 +13,4 @@ pub mod SeatSteps
 pub mod Begins
 pub mod SeatLaws
 pub mod ThreadSteps
+pub mod Ends

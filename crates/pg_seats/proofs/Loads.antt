@@ -16,7 +16,7 @@ use Rattle.pg_words.specs.Calls.{AllowsLoad, NoSlot, granule_word, number_at}
 use Rattle.pg_words.specs.declared.layout.TheConstants.{TURN_WORD}
 use Rattle.pg_seats.specs.declared.run.Standing.{Standing}
 use Rattle.pg_seats.specs.declared.run.View.{View}
-use Rattle.pg_seats.specs.declared.run.View.TheVariants.{Idle, Laying, Pool, Worker, Note, Spent}
+use Rattle.pg_seats.specs.declared.run.View.TheVariants.{Idle, Laying, Pool, Worker, Note, Sweeping, Spent}
 use Rattle.pg_seats.specs.Views.{is_due, is_plain, is_put, looked, may_load, may_look, may_read, number_there, reads_at, went_on}
 use Rattle.pg_seats.specs.Rule.{cell_in, Holds, Keeps}
 use Rattle.pg_seats.specs.Plays.{Loads, Looks, Place, Reads}
@@ -48,10 +48,11 @@ kept_all s id word w h at =
     subst (λ ws. Keeps w.run ws (set s.views id (Worker w))) (sym (set_same s.words word)) (subst (λ vs. Keeps w.run s.words vs) (sym (set_again s.views id (Worker w) at)) h)
 
 pub loads : (id : ℕ) (me : Place) (r : ByteRange) → IsPlace r → may_load me.0 r ≡ true → AllowsLoad Holds id me (granule_word r) Loads
-loads id (Idle, l) r place e = absurd cc
+loads id (Idle z, l) r place e = absurd cc
 loads id (Laying q n, l) r place e = absurd cc
-loads id (Pool q n, l) r place e = absurd cc
+loads id (Pool q n y, l) r place e = absurd cc
 loads id (Note q n, l) r place e = absurd cc
+loads id (Sweeping z y, l) r place e = absurd cc
 loads id (Spent, l) r place e = absurd cc
 loads id (Worker w, l) r place e = λ s holds len at small.
     let h = running s id w holds at in
@@ -68,7 +69,7 @@ loads id (Worker w, l) r place e = λ s holds len at small.
       went_on (Worker w),
       keeps,
       tt,
-      inr (w.run, inr (subst (λ ws. Keeps w.run ws (set s.views id (went_on (Worker w)))) (sym (set_same s.words (granule_word r))) c)),
+      inr (w.run, inr (inl (subst (λ ws. Keeps w.run ws (set s.views id (went_on (Worker w)))) (sym (set_same s.words (granule_word r))) c))),
       (refl, (λ q f. subst (λ (p : ByteRange). number_at p (slice_index s.words (granule_word r)) ≡ number_there (Worker w) p) (same q (next_that w (λ x. is_plain x && reads_at q (access_of x.did.told)) f) n) found)),
     )
   where
@@ -79,10 +80,11 @@ loads id (Worker w, l) r place e = λ s holds len at small.
         (subst (λ (x : Timed Did). At q false (access_of x.did.told)) (sym o) (read_at q (access_of k.step.did.told) (and_parts (is_plain k.step) (reads_at q (access_of k.step.did.told)) k.fits).1))
 
 pub reads : (id : ℕ) (me : Place) (r : ByteRange) → IsPlace r → may_read me.0 r ≡ true → AllowsLoad Holds id me (granule_word r) Reads
-reads id (Idle, l) r place e = absurd cc
+reads id (Idle z, l) r place e = absurd cc
 reads id (Laying q n, l) r place e = absurd cc
-reads id (Pool q n, l) r place e = absurd cc
+reads id (Pool q n y, l) r place e = absurd cc
 reads id (Note q n, l) r place e = absurd cc
+reads id (Sweeping z y, l) r place e = absurd cc
 reads id (Spent, l) r place e = absurd cc
 reads id (Worker w, l) r place e = λ s holds len at small.
     let h = running s id w holds at in
@@ -96,7 +98,7 @@ reads id (Worker w, l) r place e = λ s holds len at small.
       Worker w,
       keeps,
       tt,
-      inr (w.run, inr (kept_all s id (granule_word r) w h at)),
+      inr (w.run, inr (inl (kept_all s id (granule_word r) w h at))),
       (
         refl,
         (λ q f. subst (λ (p : ByteRange). number_at p (slice_index s.words (granule_word r)) ≡ number_there (Worker w) p)
@@ -111,10 +113,11 @@ reads id (Worker w, l) r place e = λ s holds len at small.
         (subst (λ (x : Timed Did). At q false (access_of x.did.told)) (sym o) (read_at q (access_of k.step.did.told) k.fits))
 
 pub looks : (id : ℕ) (me : Place) → may_look me.0 ≡ true → AllowsLoad Holds id me TURN_WORD Looks
-looks id (Idle, l) e = absurd cc
+looks id (Idle z, l) e = absurd cc
 looks id (Laying q n, l) e = absurd cc
-looks id (Pool q n, l) e = absurd cc
+looks id (Pool q n y, l) e = absurd cc
 looks id (Note q n, l) e = absurd cc
+looks id (Sweeping z y, l) e = absurd cc
 looks id (Spent, l) e = absurd cc
 looks id (Worker w, l) e = λ s holds len at small.
     let h = running s id w holds at in
@@ -126,8 +129,8 @@ looks id (Worker w, l) e = λ s holds len at small.
       tt,
       inr (
         w.run,
-        inr (subst (λ ws. Keeps w.run ws (set s.views id (looked (Worker w) (slice_index s.words TURN_WORD)))) (sym (set_same s.words TURN_WORD))
-            (subst (λ m. Keeps w.run s.words (set s.views id (looked (Worker w) m))) (sym n) c)),
+        inr (inl (subst (λ ws. Keeps w.run ws (set s.views id (looked (Worker w) (slice_index s.words TURN_WORD)))) (sym (set_same s.words TURN_WORD))
+            (subst (λ m. Keeps w.run s.words (set s.views id (looked (Worker w) m))) (sym n) c))),
       ),
       (
         refl,

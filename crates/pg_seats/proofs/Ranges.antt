@@ -1,5 +1,5 @@
 -- What a seat may do, taken apart: its next step, and how this step accesses a range.
-use Rattle.std.proofs.Common.{◌≡◌, ℕ, ◌+◌, ◌-◌, ◌/◌, ◌%◌, ◌<◌, ◌⊎◌, inl, inr, ◌==◌, ◌||◌, ◌&&◌, not, Bool, true, false, Option, Some, None, List, refl, sym, ap, ◌∙◌, subst, arith}
+use Rattle.std.proofs.Common.{◌≡◌, suc, ℕ, ◌+◌, ◌-◌, ◌/◌, ◌%◌, ◌<◌, ◌⊎◌, inl, inr, ◌==◌, ◌||◌, ◌&&◌, not, Bool, true, false, Option, Some, None, List, refl, sym, ap, ◌∙◌, subst, arith}
 use Rattle.std.specs.Prelude.{is_some, slice_get, slice_index, if◌then◌else◌}
 use Rattle.std.proofs.lemmas.Bool.{eqb-true, lt-ltb, le-leb, and_parts}
 use mathlib.Core.Option.{some}
@@ -23,28 +23,28 @@ use Rattle.pg_words.specs.declared.layout.TheConstants.{GRANULE_WORDS}
 use Rattle.pg_seats.specs.declared.run.Run.{Run}
 use Rattle.pg_seats.specs.declared.run.Standing.{Standing}
 use Rattle.pg_seats.specs.declared.run.View.{View}
-use Rattle.pg_seats.specs.declared.run.View.TheVariants.{Idle, Laying, Worker, Spent}
+use Rattle.pg_seats.specs.declared.run.View.TheVariants.{Idle, Laying, Worker, Sweeping, Spent}
 use Rattle.pg_seats.specs.Plan.{cells_there, own_of}
 use Rattle.pg_seats.specs.Views.{fits, has_number, is_put, is_range, next_of, number_there, reads_at, writes_at}
-use Rattle.pg_seats.specs.Rule.{cell_in, Holds, Keeps}
+use Rattle.pg_seats.specs.Rule.{cell_in, Holds, IsOld, Keeps}
 use Rattle.pg_seats.proofs.Changes.{fits-some, next_is, same_run}
 use Rattle.pg_seats.proofs.Moves.{finds}
 use Rattle.pg_seats.proofs.StepShapes.{IsShaped, written_by}
 
 -- ---- while a worker has a seat, a run goes on
 
-not_idle : (w : Standing) → (Worker w ≡ Idle) ⊎ (Worker w ≡ Spent) → ⊥
-not_idle w (inl e) = absurd cc
-not_idle w (inr e) = absurd cc
-
-not_laying : (w : Standing) (r : Run) (n : ℕ) → (Worker w ≡ Laying r n) ⊎ (Worker w ≡ Spent) → ⊥
-not_laying w r n (inl e) = absurd cc
-not_laying w r n (inr e) = absurd cc
+module _ (v : View) (e : ℕ) (w : Standing) where
+  -- a worker isn't another view, nor spent, nor a note
+  no_worker : (Worker w ≡ v → ⊥) → (Worker w ≡ v) ⊎ ((Worker w ≡ Spent) ⊎ IsOld e (Worker w)) → ⊥
+  no_worker ne (inl q) = ne q
+  no_worker ne (inr (inl q)) = absurd cc
+  no_worker ne (inr (inr q)) = q
 
 pub running : (s : State NoSlot View) (id : ℕ) (w : Standing) → Holds s → get_elem? s.views id ≡ some (Worker w) → Keeps w.run s.words s.views
-running s id w (inl h) at = absurd (not_idle w (h.alone.only id (Worker w) at))
-running s id w (inr (run, inl (n, h))) at = absurd (not_laying w run n (h.alone.only id (Worker w) at))
-running s id w (inr (run, inr h)) at = subst (λ (r : Run). Keeps r s.words s.views) (sym (same_run run s.words s.views id w h at)) h
+running s id w (inl (e, h)) at = absurd (no_worker (Idle e) e w (λ q. absurd cc) (h.alone.only id (Worker w) at))
+running s id w (inr (run, inl (n, h))) at = absurd (no_worker (Laying run n) run.epoch w (λ q. absurd cc) (h.alone.only id (Worker w) at))
+running s id w (inr (run, inr (inl h))) at = subst (λ (r : Run). Keeps r s.words s.views) (sym (same_run run s.words s.views id w h at)) h
+running s id w (inr (run, inr (inr (k, h)))) at = absurd (no_worker (Sweeping run k) (suc run.epoch) w (λ q. absurd cc) (h.alone.only id (Worker w) at))
 
 -- ---- the next step
 

@@ -31,7 +31,7 @@ module _ (p : NumberedProgram) (input : List ℤ) (s : Schedule) (can : CanRun p
   shapes = all_filter plans.is_shared IsShaped (plans.guided_deeds p input s)
       (all_shaped s.gated p input (initial p) none_taken (run_along p input s).trace (run_along p input s).state (whole p input s good).permitted.run)
 
-timed_all : (P : Did → Type 0) (T : List ℕ) (k : ℕ) (ds : List Did) → AllOf P ds → AllOf (λ x. P x.did) (times deeds T k ds)
+pub timed_all : (P : Did → Type 0) (T : List ℕ) (k : ℕ) (ds : List Did) → AllOf P ds → AllOf (λ x. P x.did) (times deeds T k ds)
 timed_all P T k [] h = tt
 timed_all P T k (d ∷ ds) h = (h.0, timed_all P T (done_after (deeds.is_event d) k) ds h.1)
 

@@ -20,7 +20,7 @@ use Rattle.pg_law_runs.specs.Deeds.{Did}
 use Rattle.pg_words.specs.Calls.{AllowsChange, AllowsLoad, AllowsPart, AllowsStore, Changes, NoSlot, granule_word, number_at}
 use Rattle.pg_seats.specs.declared.run.Standing.{Standing}
 use Rattle.pg_seats.specs.declared.run.View.{View}
-use Rattle.pg_seats.specs.declared.run.View.TheVariants.{Idle, Laying, Pool, Worker, Note, Spent}
+use Rattle.pg_seats.specs.declared.run.View.TheVariants.{Idle, Laying, Pool, Worker, Note, Sweeping, Spent}
 use Rattle.pg_seats.specs.Plan.{own_of}
 use Rattle.pg_seats.specs.Views.{bit, has_number, has_store, has_word, is_plain, is_put, is_write, may_put, may_store, needs, next_of, number_there, part_at, went_on, with_part, writes_at}
 use Rattle.pg_seats.specs.Rule.{cell_in, Holds, Keeps}
@@ -188,9 +188,9 @@ write_range w r n (inl e) = let m = plain_next w r n e in (m.step, m.next, plain
 write_range w r n (inr e) = let m = (due_next w r n e).1 in (m.step, m.next, turn_range w r n m)
 
 pub finds : (id : ℕ) (me : Place) (r : ByteRange) (n : ℕ) → IsPlace r → MayWrite me.0 r n → AllowsLoad Holds id me (granule_word r) Finds
-finds id (Idle, l) r n place e = absurd (no_write e)
+finds id (Idle z, l) r n place e = absurd (no_write e)
   where
-    no_write : MayWrite Idle r n → ⊥
+    no_write : MayWrite (Idle z) r n → ⊥
     no_write (inl e) = absurd cc
     no_write (inr e) = absurd cc
 finds id (Laying q c, l) r n place e = absurd (no_write e)
@@ -198,14 +198,19 @@ finds id (Laying q c, l) r n place e = absurd (no_write e)
     no_write : MayWrite (Laying q c) r n → ⊥
     no_write (inl e) = absurd cc
     no_write (inr e) = absurd cc
-finds id (Pool q c, l) r n place e = absurd (no_write e)
+finds id (Pool q c y, l) r n place e = absurd (no_write e)
   where
-    no_write : MayWrite (Pool q c) r n → ⊥
+    no_write : MayWrite (Pool q c y) r n → ⊥
     no_write (inl e) = absurd cc
     no_write (inr e) = absurd cc
 finds id (Note q c, l) r n place e = absurd (no_write e)
   where
     no_write : MayWrite (Note q c) r n → ⊥
+    no_write (inl e) = absurd cc
+    no_write (inr e) = absurd cc
+finds id (Sweeping z y, l) r n place e = absurd (no_write e)
+  where
+    no_write : MayWrite (Sweeping z y) r n → ⊥
     no_write (inl e) = absurd cc
     no_write (inr e) = absurd cc
 finds id (Spent, l) r n place e = absurd (no_write e)
@@ -218,7 +223,7 @@ finds id (Worker w, l) r n place e = λ s holds len at small.
       Worker w,
       keeps,
       tt,
-      inr (w.run, inr (kept_all s id (granule_word r) w h at)),
+      inr (w.run, inr (inl (kept_all s id (granule_word r) w h at))),
       (refl, (λ q m f. subst (λ (p : ByteRange). number_at p (slice_index s.words (granule_word r)) ≡ number_there (Worker w) p) (same q m f) (found s h at e))),
     )
   where
@@ -230,33 +235,36 @@ finds id (Worker w, l) r n place e = λ s holds len at small.
     found s h at (inr e) = let d = due_next w r n e in found_due s.words s.views id w h at r place n d.0 d.1
 
 pub stores : (id : ℕ) (me : Place) (r : ByteRange) (n : ℕ) → IsPlace r → r.bytes ≡ 8 → may_store me.0 r n ≡ true → AllowsStore Holds id me (granule_word r) n Stores
-stores id (Idle, l) r n place eight e = absurd cc
+stores id (Idle z, l) r n place eight e = absurd cc
 stores id (Laying q c, l) r n place eight e = absurd cc
-stores id (Pool q c, l) r n place eight e = absurd cc
+stores id (Pool q c y, l) r n place eight e = absurd cc
 stores id (Note q c, l) r n place eight e = absurd cc
+stores id (Sweeping z y, l) r n place eight e = absurd cc
 stores id (Spent, l) r n place eight e = absurd cc
 stores id (Worker w, l) r n place eight e = λ s holds len at small.
     let h = running s id w holds at in
-    (went_on (Worker w), keeps, tt, inr (w.run, inr (stored_plain s.words s.views id w h at r place n (plain_next w r n e) n (whole_stored s.words r n place eight))), refl)
+    (went_on (Worker w), keeps, tt, inr (w.run, inr (inl (stored_plain s.words s.views id w h at r place n (plain_next w r n e) n (whole_stored s.words r n place eight)))), refl)
 
 pub puts : (id : ℕ) (me : Place) (r : ByteRange) (n : ℕ) → IsPlace r → r.bytes ≡ 8 → may_put me.0 r n ≡ true → AllowsStore Holds id me (granule_word r) n Puts
-puts id (Idle, l) r n place eight e = absurd cc
+puts id (Idle z, l) r n place eight e = absurd cc
 puts id (Laying q c, l) r n place eight e = absurd cc
-puts id (Pool q c, l) r n place eight e = absurd cc
+puts id (Pool q c y, l) r n place eight e = absurd cc
 puts id (Note q c, l) r n place eight e = absurd cc
+puts id (Sweeping z y, l) r n place eight e = absurd cc
 puts id (Spent, l) r n place eight e = absurd cc
 puts id (Worker w, l) r n place eight e = λ s holds len at small.
     let h = running s id w holds at in
     let d = due_next w r n e in
-    (with_part (Worker w), keeps, tt, inr (w.run, inr (stored_due s.words s.views id w h at r place n d.0 d.1 n (whole_stored s.words r n place eight))), refl)
+    (with_part (Worker w), keeps, tt, inr (w.run, inr (inl (stored_due s.words s.views id w h at r place n d.0 d.1 n (whole_stored s.words r n place eight)))), refl)
 
 -- the change of a plain store, at the view that the load before it left
 store_change : (id : ℕ) (me : Place) (r : ByteRange) (n found : ℕ) (change : Delta) → IsPlace r → may_store me.0 r n ≡ true → number_at r found ≡ number_there me.0 r → Changes r (number_at r found) n change
     → AllowsChange Holds id me (granule_word r) change Stores
-store_change id (Idle, l) r n found change place e f c = absurd cc
+store_change id (Idle z, l) r n found change place e f c = absurd cc
 store_change id (Laying q m, l) r n found change place e f c = absurd cc
-store_change id (Pool q m, l) r n found change place e f c = absurd cc
+store_change id (Pool q m y, l) r n found change place e f c = absurd cc
 store_change id (Note q m, l) r n found change place e f c = absurd cc
+store_change id (Sweeping z y, l) r n found change place e f c = absurd cc
 store_change id (Spent, l) r n found change place e f c = absurd cc
 store_change id (Worker w, l) r n found change place e f c = λ s holds len at small.
     let h = running s id w holds at in
@@ -266,18 +274,19 @@ store_change id (Worker w, l) r n found change place e f c = λ s holds len at s
       tt,
       inr (
         w.run,
-        inr (stored_plain s.words s.views id w h at r place n m (changed_by change (slice_index s.words (granule_word r)))
-            (part_stored s.words r found n change c small (found_plain s.words s.views id w h at r place n m ∙ sym f))),
+        inr (inl (stored_plain s.words s.views id w h at r place n m (changed_by change (slice_index s.words (granule_word r)))
+            (part_stored s.words r found n change c small (found_plain s.words s.views id w h at r place n m ∙ sym f)))),
       ),
       refl,
     )
 
 put_change : (id : ℕ) (me : Place) (r : ByteRange) (n found : ℕ) (change : Delta) → IsPlace r → may_put me.0 r n ≡ true → number_at r found ≡ number_there me.0 r → Changes r (number_at r found) n change
     → AllowsChange Holds id me (granule_word r) change Puts
-put_change id (Idle, l) r n found change place e f c = absurd cc
+put_change id (Idle z, l) r n found change place e f c = absurd cc
 put_change id (Laying q m, l) r n found change place e f c = absurd cc
-put_change id (Pool q m, l) r n found change place e f c = absurd cc
+put_change id (Pool q m y, l) r n found change place e f c = absurd cc
 put_change id (Note q m, l) r n found change place e f c = absurd cc
+put_change id (Sweeping z y, l) r n found change place e f c = absurd cc
 put_change id (Spent, l) r n found change place e f c = absurd cc
 put_change id (Worker w, l) r n found change place e f c = λ s holds len at small.
     let h = running s id w holds at in
@@ -287,8 +296,8 @@ put_change id (Worker w, l) r n found change place e f c = λ s holds len at sma
       tt,
       inr (
         w.run,
-        inr (stored_due s.words s.views id w h at r place n d.0 d.1 (changed_by change (slice_index s.words (granule_word r)))
-            (part_stored s.words r found n change c small (found_due s.words s.views id w h at r place n d.0 d.1 ∙ sym f))),
+        inr (inl (stored_due s.words s.views id w h at r place n d.0 d.1 (changed_by change (slice_index s.words (granule_word r)))
+            (part_stored s.words r found n change c small (found_due s.words s.views id w h at r place n d.0 d.1 ∙ sym f)))),
       ),
       refl,
     )

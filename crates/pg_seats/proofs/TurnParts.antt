@@ -13,7 +13,7 @@ use Rattle.pg_words.specs.Calls.{AllowsChange, AllowsLoad, AllowsStore, thread_w
 use Rattle.pg_words.specs.declared.layout.TheConstants.{THREAD_WORDS, TURN_WORD}
 use Rattle.pg_seats.specs.declared.run.Standing.{Standing}
 use Rattle.pg_seats.specs.declared.run.View.{View}
-use Rattle.pg_seats.specs.declared.run.View.TheVariants.{Idle, Laying, Pool, Worker, Note, Spent}
+use Rattle.pg_seats.specs.declared.run.View.TheVariants.{Idle, Laying, Pool, Worker, Note, Sweeping, Spent}
 use Rattle.pg_seats.specs.Views.{advanced, bit, fits, has_store, has_word, is_due, is_number, is_put, may_advance, may_hear, may_say, needs, next_of, part_at, says, with_part, word_there}
 use Rattle.pg_seats.specs.Rule.{cell_in, Holds, Keeps}
 use Rattle.pg_seats.specs.Plays.{Advances, Hears, Place, Puts}
@@ -82,23 +82,25 @@ module _ (words : List ℕ) (views : List View) (id : ℕ) (w : Standing) (h : K
   said = put_more words views id w h at is m.step m.next (set words (thread_word t) n) few (length-set words (thread_word t) n) (word_clock words t n h.wide inside) cells
 
 pub says_keep : (id : ℕ) (me : Place) (t n : ℕ) → t < THREAD_LIMIT → may_say me.0 t n ≡ true → AllowsStore Holds id me (thread_word t) n Puts
-says_keep id (Idle, l) t n inside e = absurd cc
+says_keep id (Idle z, l) t n inside e = absurd cc
 says_keep id (Laying q c, l) t n inside e = absurd cc
-says_keep id (Pool q c, l) t n inside e = absurd cc
+says_keep id (Pool q c y, l) t n inside e = absurd cc
 says_keep id (Note q c, l) t n inside e = absurd cc
+says_keep id (Sweeping z y, l) t n inside e = absurd cc
 says_keep id (Spent, l) t n inside e = absurd cc
 says_keep id (Worker w, l) t n inside e = λ s holds len at small.
     let h = running s id w holds at in
     let b = and_parts w.due (fits (λ x. (w.parts == 0) && says t n x.did) (next_of w)) e in
-    (with_part (Worker w), keeps, tt, inr (w.run, inr (said s.words s.views id w h at b.0 t n inside (next_that w (λ x. (w.parts == 0) && says t n x.did) b.1))), refl)
+    (with_part (Worker w), keeps, tt, inr (w.run, inr (inl (said s.words s.views id w h at b.0 t n inside (next_that w (λ x. (w.parts == 0) && says t n x.did) b.1)))), refl)
 
 -- ---- the word that a turn reads
 
 pub hears : (id : ℕ) (me : Place) (t : ℕ) → t < THREAD_LIMIT → may_hear me.0 t ≡ true → AllowsLoad Holds id me (thread_word t) Hears
-hears id (Idle, l) t inside e = absurd cc
+hears id (Idle z, l) t inside e = absurd cc
 hears id (Laying q c, l) t inside e = absurd cc
-hears id (Pool q c, l) t inside e = absurd cc
+hears id (Pool q c y, l) t inside e = absurd cc
 hears id (Note q c, l) t inside e = absurd cc
+hears id (Sweeping z y, l) t inside e = absurd cc
 hears id (Spent, l) t inside e = absurd cc
 hears id (Worker w, l) t inside e = λ s holds len at small.
     let h = running s id w holds at in
@@ -110,7 +112,7 @@ hears id (Worker w, l) t inside e = λ s holds len at small.
       Worker w,
       keeps,
       tt,
-      inr (w.run, inr (kept_all s id (thread_word t) w h at)),
+      inr (w.run, inr (inl (kept_all s id (thread_word t) w h at))),
       (refl, (λ u q. let e : t ≡ u = omega arith in subst (λ k. slice_index s.words (thread_word t) ≡ word_there (Worker w) k) e (cell s.words ∙ found))),
     )
   where
@@ -120,10 +122,11 @@ hears id (Worker w, l) t inside e = λ s holds len at small.
 -- ---- the end of a turn
 
 pub advances : (id : ℕ) (me : Place) → may_advance me.0 ≡ true → AllowsChange Holds id me TURN_WORD (Add 1) Advances
-advances id (Idle, l) e = absurd cc
+advances id (Idle z, l) e = absurd cc
 advances id (Laying q c, l) e = absurd cc
-advances id (Pool q c, l) e = absurd cc
+advances id (Pool q c y, l) e = absurd cc
 advances id (Note q c, l) e = absurd cc
+advances id (Sweeping z y, l) e = absurd cc
 advances id (Spent, l) e = absurd cc
 advances id (Worker w, l) e = λ s holds len at small.
     let h = running s id w holds at in
@@ -143,8 +146,8 @@ advances id (Worker w, l) e = λ s holds len at small.
       tt,
       inr (
         w.run,
-        inr (subst (λ k. Keeps w.run (set s.words TURN_WORD k) (set s.views id (advanced (Worker w) (slice_index s.words TURN_WORD)))) now
-            (subst (λ k. Keeps w.run (set s.words TURN_WORD (suc h.turns)) (set s.views id (advanced (Worker w) k))) (sym n) c)),
+        inr (inl (subst (λ k. Keeps w.run (set s.words TURN_WORD k) (set s.views id (advanced (Worker w) (slice_index s.words TURN_WORD)))) now
+            (subst (λ k. Keeps w.run (set s.words TURN_WORD (suc h.turns)) (set s.views id (advanced (Worker w) k))) (sym n) c))),
       ),
       (refl, (subst (λ j. is_due w j ≡ true) (sym n) due, (let l = k.seen in omega (arith, n, l)))),
     )

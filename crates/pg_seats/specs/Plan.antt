@@ -11,8 +11,8 @@ use Rattle.pg_law_course.specs.Plan as plans
 pub use Rattle.pg_law_course.specs.Course.{before}
 use Rattle.pg_seats.specs.declared.run.Run.{Run}
 
-abbrev pub run_of : NumberedProgram → Schedule → List ℤ → Run
-run_of p s input = record { program = p; schedule = s; input = input }
+abbrev pub run_of : NumberedProgram → Schedule → List ℤ → ℕ → Run
+run_of p s input epoch = record { program = p; schedule = s; input = input; epoch = epoch }
 
 -- a run that threads can take on their own along its turns, whose turns can be counted in a word
 pub record IsEnforced (r : Run) : Type 0 where
@@ -42,4 +42,4 @@ cells_there r t m = (effects (first_of r) (before t m (plan_of r))).cells
 
 -- some run, for a name that names none
 abbrev pub no_run : Run
-no_run = run_of (record { functions = []; blocks = []; instrs = []; globals = []; main = 0 }) (record { turns = []; replies = []; gated = [] }) []
+no_run = run_of (record { functions = []; blocks = []; instrs = []; globals = []; main = 0 }) (record { turns = []; replies = []; gated = [] }) [] 0

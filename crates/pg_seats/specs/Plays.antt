@@ -5,7 +5,7 @@ use Rattle.pg_num.specs.Places.{ByteRange}
 use Rattle.pg_words.specs.Calls.{NoSlot, number_at, thread_word}
 use Rattle.pg_words.specs.declared.layout.TheConstants.{GRANULE_WORDS}
 use Rattle.pg_seats.specs.declared.run.View.{View}
-use Rattle.pg_seats.specs.Views.{advanced, IsAhead, IsNow, laid, looked, may_load, may_put, may_read, may_store, number_there, pooled, seen_of, went_on, with_part, word_there}
+use Rattle.pg_seats.specs.Views.{advanced, IsAhead, IsNow, laid, looked, may_load, may_put, may_read, may_store, number_there, pooled, seen_of, went_on, with_part, word_there, closed, swept, rested}
 
 -- a seat as plain data
 abbrev pub Place : Type 0
@@ -54,3 +54,15 @@ Lays st me n after = after ≡ (laid me.0 (st.word - GRANULE_WORDS), me.1)
 -- all of what the run begins with is there
 abbrev pub Opens : Doing → Place → ℕ → Place → Type 0
 Opens st me n after = after ≡ (pooled me.0, me.1)
+
+-- the turn word is 0 again, and with it the run is over
+abbrev pub Closes : Doing → Place → ℕ → Place → Type 0
+Closes st me n after = after ≡ (closed me.0, me.1)
+
+-- a word is 0 again
+abbrev pub Wipes : Doing → Place → ℕ → Place → Type 0
+Wipes st me n after = after ≡ (swept me.0 st.word, me.1)
+
+-- all words are
+abbrev pub Rests : Doing → Place → ℕ → Place → Type 0
+Rests st me n after = after ≡ (rested me.0, me.1)

@@ -1,10 +1,10 @@
 -- The rule of the shared words: at every moment words and seats stand at a cut of the full guided run, apart from the parts of the turn
 -- that is due which are done.
-use Rattle.std.specs.Prelude.{◌≡◌, ℕ, ◌+◌, ◌-◌, ◌*◌, ◌/◌, ◌%◌, ◌<◌, ◌≤◌, ◌⊎◌, nat_lt, true, length, List, Option, Some, None, slice_get, slice_index, if◌then◌else◌, ⊤}
+use Rattle.std.specs.Prelude.{◌≡◌, ℕ, ◌+◌, ◌-◌, ◌*◌, ◌/◌, ◌%◌, ◌<◌, ◌≤◌, ◌⊎◌, nat_lt, true, length, List, Option, Some, None, slice_get, slice_index, if◌then◌else◌, ⊤, suc}
 use mathlib.Core.Option.{some}
 use lib.ListN.{get_elem?}
 use Rattle.atomic_table.specs.Table.{State}
-use Rattle.pg_num.specs.declared.layout.TheConstants.{MEMORY_BYTES}
+use Rattle.pg_num.specs.declared.layout.TheConstants.{GRANULE_COUNT, MEMORY_BYTES}
 use Rattle.pg_num.specs.declared.limits.TheConstants.{THREAD_LIMIT}
 use Rattle.pg_run_memory.specs.Bytes.{byte_of}
 use Rattle.pg_run_memory.specs.Initial.{initial_byte}
@@ -17,9 +17,9 @@ use Rattle.pg_words.specs.declared.layout.TheConstants.{GRANULE_WORDS, THREAD_WO
 use Rattle.pg_seats.specs.declared.run.Run.{Run}
 use Rattle.pg_seats.specs.declared.run.Standing.{Standing}
 use Rattle.pg_seats.specs.declared.run.View.{View}
-use Rattle.pg_seats.specs.declared.run.View.TheVariants.{Idle, Laying, Pool, Worker, Note, Spent}
+use Rattle.pg_seats.specs.declared.run.View.TheVariants.{Idle, Laying, Pool, Worker, Note, Sweeping, Spent}
 use Rattle.pg_seats.specs.Plan.{IsEnforced, first_of, own_of, plan_of, turns_in}
-use Rattle.pg_seats.specs.Views.{is_due, is_put, needed, next_of}
+use Rattle.pg_seats.specs.Views.{IsClean, is_due, is_put, needed, next_of}
 
 -- the cell of the run that these words hold: a byte of memory, and behind memory a thread's word
 abbrev pub cell_in : List ℕ → ℕ → ℕ
@@ -27,9 +27,10 @@ cell_in words b = if nat_lt b MEMORY_BYTES then byte_of (slice_index words (GRAN
 
 -- ---- seats
 
--- how many threads have a seat, which seat is the pool's and which each thread's, and how many parts of a turn each has done
+-- how many threads were given a seat, how many of these seats were taken back, which seat is the pool's and which each thread's, and how many parts of a turn each has done
 pub record Seats : Type 0 where
   pub made : ℕ
+  pub gone : ℕ
   pub pool : ℕ
   pub seat : ℕ → ℕ
   pub parts : ℕ → ℕ
@@ -39,6 +40,7 @@ pub record IsSeated (run : Run) (c : Seats) (done : ℕ → ℕ) (clock id : ℕ
   pub same_run : w.run ≡ run
   pub seated : id ≡ c.seat w.thread
   pub made : w.thread < c.made
+  pub left : c.gone ≤ w.thread
   pub done_is : w.done ≡ done w.thread
   pub parts_is : w.parts ≡ c.parts w.thread
   -- where it is due, its next shared step is the next turn
@@ -49,9 +51,9 @@ pub record IsSeated (run : Run) (c : Seats) (done : ℕ → ℕ) (clock id : ℕ
   pub seen : w.seen ≤ clock
 
 abbrev pub Fits : Run → Seats → (ℕ → ℕ) → ℕ → ℕ → View → Type 0
-Fits run c done clock id (Pool r n) = (r ≡ run) × (id ≡ c.pool) × (n ≡ c.made)
+Fits run c done clock id (Pool r n m) = (r ≡ run) × (id ≡ c.pool) × (n ≡ c.made) × (m ≡ c.gone)
 Fits run c done clock id (Worker w) = IsSeated run c done clock id w
-Fits run c done clock id (Note r n) = (r ≡ run) × (n ≤ clock)
+Fits run c done clock id (Note r n) = ((r ≡ run) × (n ≤ clock)) ⊎ (r.epoch < run.epoch)
 Fits run c done clock id Spent = ⊤
 Fits run c done clock id v = ⊥
 
@@ -86,7 +88,9 @@ pub record Keeps (run : Run) (words : List ℕ) (views : List View) : Type 0 whe
   pub stands : Stands (turns_in run) (plan_of run) turns
   pub seats : Seats
   pub fits : (id : ℕ) (v : View) → get_elem? views id ≡ some v → Fits run seats (done_of stands) turns id v
-  pub seated : (t : ℕ) → t < seats.made → HasSeat views seats t
+  pub few_gone : seats.gone ≤ seats.made
+  pub seated : (t : ℕ) → t < seats.made → seats.gone ≤ t → HasSeat views seats t
+  pub gathered : (t : ℕ) → t < seats.gone → seats.parts t ≡ 0
   pub unseated : (t : ℕ) → seats.made ≤ t → (done_of stands t ≡ 0) × (seats.parts t ≡ 0)
   -- each cell is what the steps that are done leave, in the run's order, with the parts of the next turn laid over it
   pub memory : (b : ℕ) → b < MEMORY_BYTES + THREAD_LIMIT
@@ -94,25 +98,44 @@ pub record Keeps (run : Run) (words : List ℕ) (views : List View) : Type 0 whe
 
 -- ---- before it
 
--- one seat has this view, and all others are spent
-pub record IsAlone (v : View) (views : List View) : Type 0 where
-  pub only : (id : ℕ) (u : View) → get_elem? views id ≡ some u → (u ≡ v) ⊎ (u ≡ Spent)
+-- a note of a run before this one
+abbrev pub IsOld : ℕ → View → Type 0
+IsOld epoch (Note r n) = r.epoch < epoch
+IsOld epoch v = ⊥
+
+-- one seat has this view, and all others are spent, or notes of runs before this one
+pub record IsAlone (v : View) (epoch : ℕ) (views : List View) : Type 0 where
+  pub only : (id : ℕ) (u : View) → get_elem? views id ≡ some u → (u ≡ v) ⊎ ((u ≡ Spent) ⊎ IsOld epoch u)
   pub one : (i j : ℕ) → get_elem? views i ≡ some v → get_elem? views j ≡ some v → i ≡ j
 
--- between runs all words are 0, and one seat is idle
-pub record Rests (words : List ℕ) (views : List View) : Type 0 where
+-- all bytes of granule g are 0
+abbrev pub IsZero : List ℕ → ℕ → Type 0
+IsZero words g = (j : ℕ) → j < 8 → byte_of (slice_index words (GRANULE_WORDS + g)) j ≡ 0
+
+-- between runs all is 0, and one seat is idle
+pub record Rests (epoch : ℕ) (words : List ℕ) (views : List View) : Type 0 where
   pub wide : length words ≡ WORD_COUNT
-  pub zeros : (i : ℕ) → slice_index words i ≡ 0
-  pub alone : IsAlone Idle views
+  pub heads : (i : ℕ) → i < GRANULE_WORDS → slice_index words i ≡ 0
+  pub zeros : (g : ℕ) → g < GRANULE_COUNT → IsZero words g
+  pub alone : IsAlone (Idle epoch) epoch views
 
 -- the words hold what the run begins with in granules below a number, and 0 elsewhere
 pub record Lays (run : Run) (laid : ℕ) (words : List ℕ) (views : List View) : Type 0 where
   pub run_is : IsEnforced run
   pub wide : length words ≡ WORD_COUNT
-  pub threads : (i : ℕ) → i < GRANULE_WORDS → slice_index words i ≡ 0
+  pub heads : (i : ℕ) → i < GRANULE_WORDS → slice_index words i ≡ 0
   pub bytes : (b : ℕ) → b < 8 * laid → byte_of (slice_index words (GRANULE_WORDS + b / 8)) (b % 8) ≡ initial_byte run.program.globals b
-  pub zeros : (k : ℕ) → laid ≤ k → slice_index words (GRANULE_WORDS + k) ≡ 0
-  pub alone : IsAlone (Laying run laid) views
+  pub zeros : (g : ℕ) → laid ≤ g → g < GRANULE_COUNT → IsZero words g
+  pub alone : IsAlone (Laying run laid) run.epoch views
+
+-- ---- behind it
+
+-- words below a number are 0 again, and so are the granules that are clean
+pub record Sweeps (run : Run) (k : ℕ) (words : List ℕ) (views : List View) : Type 0 where
+  pub wide : length words ≡ WORD_COUNT
+  pub heads : (i : ℕ) → i < k → i < GRANULE_WORDS → slice_index words i ≡ 0
+  pub zeros : (g : ℕ) → g < GRANULE_COUNT → (GRANULE_WORDS + g < k) ⊎ IsClean run g → IsZero words g
+  pub alone : IsAlone (Sweeping run k) (suc run.epoch) views
 
 abbrev pub Holds : State NoSlot View → Type 0
-Holds s = Rests s.words s.views ⊎ ((run : Run) × (((laid : ℕ) × Lays run laid s.words s.views) ⊎ Keeps run s.words s.views))
+Holds s = ((epoch : ℕ) × Rests epoch s.words s.views) ⊎ ((run : Run) × (((laid : ℕ) × Lays run laid s.words s.views) ⊎ (Keeps run s.words s.views ⊎ ((k : ℕ) × Sweeps run k s.words s.views))))

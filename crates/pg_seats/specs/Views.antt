@@ -1,7 +1,8 @@
 -- What a view says of the run that it holds: the next shared step of its thread, what its seat may do, and what each step makes of it.
-use Rattle.std.specs.Prelude.{◌≡◌, ℕ, suc, ◌+◌, ◌*◌, ◌<◌, ◌≤◌, ◌==◌, ◌&&◌, not, nat_lt, max, Bool, true, false, Option, Some, None, is_some, slice_get, if◌then◌else◌, ⊤}
+use Rattle.std.specs.Prelude.{◌≡◌, ℕ, suc, ◌+◌, ◌*◌, ◌<◌, ◌≤◌, ◌==◌, ◌&&◌, not, nat_lt, max, Bool, true, false, Option, Some, None, is_some, slice_get, if◌then◌else◌, ⊤, ◌/◌}
 use Rattle.pg_num.specs.Places.{ByteRange}
-use Rattle.pg_num.specs.declared.layout.TheConstants.{MEMORY_BYTES}
+use Rattle.std.specs.List.{AllByRecursion}
+use Rattle.pg_num.specs.declared.layout.TheConstants.{GRANULE_COUNT, MEMORY_BYTES}
 use Rattle.pg_num.specs.declared.limits.TheConstants.{THREAD_LIMIT}
 use Rattle.pg_run_memory.specs.Bytes.{byte_of, number_of}
 use Rattle.pg_run_memory.specs.Initial.{initial_byte}
@@ -14,10 +15,13 @@ use Rattle.pg_run_trace.specs.declared.turn.TurnKind.{TurnKind}
 use Rattle.pg_run_trace.specs.declared.turn.TurnKind.TheVariants as turns
 use Rattle.pg_run_trace.specs.Steps.{access_of, range_of}
 use Rattle.pg_law_runs.specs.Deeds.{Did}
+use Rattle.pg_seats.specs.declared.run.Run.{Run}
 use Rattle.pg_seats.specs.declared.run.Standing.{Standing}
 use Rattle.pg_seats.specs.declared.run.View.{View}
-use Rattle.pg_seats.specs.declared.run.View.TheVariants.{Idle, Laying, Pool, Worker, Note, Spent}
-use Rattle.pg_seats.specs.Plan.{cells_there, own_of}
+use Rattle.pg_seats.specs.declared.run.View.TheVariants.{Idle, Laying, Pool, Worker, Note, Sweeping, Spent}
+use Rattle.pg_words.specs.Calls.{thread_word}
+use Rattle.pg_words.specs.declared.layout.TheConstants.{GRANULE_WORDS}
+use Rattle.pg_seats.specs.Plan.{cells_there, own_of, plan_of}
 
 -- ---- the next shared step
 
@@ -122,8 +126,12 @@ says t n d = has_word d && is_number n (d.writes (MEMORY_BYTES + t))
 
 -- ---- what a seat may do
 
+abbrev pub epoch_of : View → ℕ
+epoch_of (Idle e) = e
+epoch_of v = 0
+
 abbrev pub may_begin : View → Bool
-may_begin Idle = true
+may_begin (Idle e) = true
 may_begin v = false
 
 abbrev pub may_look : View → Bool
@@ -131,12 +139,26 @@ may_look (Worker w) = true
 may_look v = false
 
 abbrev pub may_split : View → Bool
-may_split (Pool r n) = true
+may_split (Pool r n m) = m == 0
 may_split v = false
 
-abbrev pub may_tell : View → Bool
-may_tell (Note r n) = true
-may_tell v = false
+-- a note of the same run
+abbrev pub may_take : View → View → Bool
+may_take (Worker w) (Note r n) = r.epoch == w.run.epoch
+may_take v u = false
+
+-- the seat of the first thread that has one, with no part done
+abbrev pub may_gather : View → View → Bool
+may_gather (Pool r n m) (Worker w) = (w.thread == m) && (w.parts == 0)
+may_gather v u = false
+
+abbrev pub may_close : View → Bool
+may_close (Pool r n m) = n == m
+may_close v = false
+
+abbrev pub may_clear : View → ℕ → Bool
+may_clear (Sweeping r k) t = k == thread_word t
+may_clear v t = false
 
 -- a plain load
 abbrev pub may_load : View → ByteRange → Bool
@@ -192,11 +214,11 @@ advanced (Worker w) n = Worker (record { run = w.run; thread = w.thread; done = 
 advanced v n = v
 
 abbrev pub with_one_more : View → View
-with_one_more (Pool r n) = Pool r (suc n)
+with_one_more (Pool r n m) = Pool r (suc n) m
 with_one_more v = v
 
 abbrev pub newcomer : View → View
-newcomer (Pool r n) = Worker (record { run = r; thread = n; done = 0; due = false; parts = 0; seen = 0; looks = 0 })
+newcomer (Pool r n m) = Worker (record { run = r; thread = n; done = 0; due = false; parts = 0; seen = 0; looks = 0 })
 newcomer v = Spent
 
 abbrev pub noted : View → View
@@ -228,7 +250,7 @@ laid (Laying r n) k = Laying r (suc k)
 laid v k = v
 
 abbrev pub pooled : View → View
-pooled (Laying r n) = Pool r 0
+pooled (Laying r n) = Pool r 0 0
 pooled v = v
 
 -- the run begins with this word in granule k, and with zeros in those between it and the last that was laid
@@ -242,3 +264,34 @@ MayLay v k word = ⊥
 abbrev pub MayOpen : View → Type 0
 MayOpen (Laying r n) = (b : ℕ) → 8 * n ≤ b → b < MEMORY_BYTES → initial_byte r.program.globals b ≡ 0
 MayOpen v = ⊥
+
+-- ---- the end of a run
+
+abbrev pub gathered : View → View → View
+gathered (Pool r n m) u = Pool r n (suc m)
+gathered v u = v
+
+abbrev pub closed : View → View
+closed (Pool r n m) = Sweeping r 1
+closed v = v
+
+abbrev pub swept : View → ℕ → View
+swept (Sweeping r k) i = Sweeping r (suc i)
+swept v i = v
+
+abbrev pub rested : View → View
+rested (Sweeping r k) = Idle (suc r.epoch)
+rested v = v
+
+-- the run never writes this granule, and begins with zeros there
+abbrev pub IsClean : Run → ℕ → Type 0
+IsClean r g = (b : ℕ) → b / 8 ≡ g → (initial_byte r.program.globals b ≡ 0) × AllByRecursion (λ d. is_some (d.writes b) ≡ false) (plan_of r)
+
+-- all granules between the words that are 0 again and this one are clean
+abbrev pub MayWipe : View → ℕ → Type 0
+MayWipe (Sweeping r k) g = (GRANULE_WORDS ≤ k) × (k ≤ GRANULE_WORDS + g) × ((i : ℕ) → k ≤ GRANULE_WORDS + i → i < g → IsClean r i)
+MayWipe v g = ⊥
+
+abbrev pub MayRest : View → Type 0
+MayRest (Sweeping r k) = (GRANULE_WORDS ≤ k) × ((i : ℕ) → k ≤ GRANULE_WORDS + i → i < GRANULE_COUNT → IsClean r i)
+MayRest v = ⊥

@@ -2,7 +2,7 @@
 
 ghost use Rattle.std.specs.Prelude.{◌≡◌, ◌/◌, [], IfOk, true};
 ghost use Rattle.pg_seats.specs.Plan.{IsEnforced, run_of};
-ghost use Rattle.pg_seats.specs.Views.{MayLay, MayOpen, laid, may_begin, pooled};
+ghost use Rattle.pg_seats.specs.Views.{MayLay, MayOpen, epoch_of, laid, may_begin, pooled};
 ghost use Rattle.pg_seats.specs.declared.run.View.TheVariants.{Idle, Laying};
 
 use crate::rule::{Begins, Lays, Named, Opens, Place, RunWords};
@@ -15,7 +15,7 @@ use std::marker::Brand;
 /// Words at rest, and their one seat.
 #[tactic(auto, using(crate::proofs::Begins::at_rest))]
 pub fn new(alloc: Global) -> Result<(RunWords, Place), AllocError>
-    ensures { IfOk result (λ t. (t.1.table_id ≡ t.0.table.shared.table_id) × (t.1.me ≡ (Idle, []))) }
+    ensures { IfOk result (λ t. (t.1.table_id ≡ t.0.table.shared.table_id) × (t.1.me ≡ (Idle 0, []))) }
 {
     RunWords::new(alloc, &())
 }
@@ -25,6 +25,7 @@ fn begin_named<J: Named>(words: &RunWords, seat: &mut Place)
     requires own { seat.old.table_id ≡ words.now.table.shared.table_id }
     requires enforced { IsEnforced J.run }
     requires idle { may_begin seat.old.me.0 ≡ true }
+    requires epoch { epoch_of seat.old.me.0 ≡ J.run.epoch }
     ensures own { (seat.new.table_id ≡ seat.old.table_id) × (seat.new.id ≡ seat.old.id) }
     ensures view { seat.new.me ≡ (Laying J.run 0, seat.old.me.1) }
 {
@@ -38,12 +39,12 @@ fn begin_as<J: Named>(
     schedule: &Schedule,
     input: &[i64],
 )
-    requires named { J.run ≡ run_of program.now schedule.now input.now }
+    requires named { J.run ≡ run_of program.now schedule.now input.now (epoch_of seat.old.me.0) }
     requires own { seat.old.table_id ≡ words.now.table.shared.table_id }
-    requires enforced { IsEnforced (run_of program.now schedule.now input.now) }
+    requires enforced { IsEnforced (run_of program.now schedule.now input.now (epoch_of seat.old.me.0)) }
     requires idle { may_begin seat.old.me.0 ≡ true }
     ensures own { (seat.new.table_id ≡ seat.old.table_id) × (seat.new.id ≡ seat.old.id) }
-    ensures view { seat.new.me ≡ (Laying (run_of program.now schedule.now input.now) 0, seat.old.me.1) }
+    ensures view { seat.new.me ≡ (Laying (run_of program.now schedule.now input.now (epoch_of seat.old.me.0)) 0, seat.old.me.1) }
 {
     begin_named::<J>(words, seat);
 }
@@ -57,10 +58,10 @@ pub fn begin(
     input: &[i64],
 )
     requires own { seat.old.table_id ≡ words.now.table.shared.table_id }
-    requires enforced { IsEnforced (run_of program.now schedule.now input.now) }
+    requires enforced { IsEnforced (run_of program.now schedule.now input.now (epoch_of seat.old.me.0)) }
     requires idle { may_begin seat.old.me.0 ≡ true }
     ensures own { (seat.new.table_id ≡ seat.old.table_id) × (seat.new.id ≡ seat.old.id) }
-    ensures view { seat.new.me ≡ (Laying (run_of program.now schedule.now input.now) 0, seat.old.me.1) }
+    ensures view { seat.new.me ≡ (Laying (run_of program.now schedule.now input.now (epoch_of seat.old.me.0)) 0, seat.old.me.1) }
 {
     begin_as::<Brand>(words, seat, program, schedule, input);
 }

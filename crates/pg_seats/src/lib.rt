@@ -5,6 +5,7 @@
 
 pub mod accesses;
 pub mod begin;
+pub mod end;
 pub mod laws;
 pub mod rule;
 pub mod run;

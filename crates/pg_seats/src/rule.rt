@@ -14,7 +14,7 @@ impl TableRule<(), View, ()> for Enforced {
 
     ghost holds = { λ _ s. Holds s };
 
-    ghost first = { λ _. Idle };
+    ghost first = { λ _. Idle 0 };
 }
 
 /// The words of runs, one after another.
@@ -167,4 +167,43 @@ impl Join<View> for Noted {
     ghost both = { told };
 
     ghost spent = { Spent };
+}
+
+/// The seat of a thread is taken back.
+pub struct Gathers;
+
+impl Join<View> for Gathers {
+    ghost use Rattle.pg_seats.specs.Views.{gathered};
+    ghost use Rattle.pg_seats.specs.declared.run.View.TheVariants.{Spent};
+
+    ghost both = { gathered };
+
+    ghost spent = { Spent };
+}
+
+/// The run is over.
+pub struct Closes;
+
+impl Play<(), View> for Closes {
+    ghost use Rattle.pg_seats.specs.Plays.{Closes};
+
+    ghost then = { Closes };
+}
+
+/// A word is 0 again.
+pub struct Wipes;
+
+impl Play<(), View> for Wipes {
+    ghost use Rattle.pg_seats.specs.Plays.{Wipes};
+
+    ghost then = { Wipes };
+}
+
+/// All words are.
+pub struct Rests;
+
+impl Play<(), View> for Rests {
+    ghost use Rattle.pg_seats.specs.Plays.{Rests};
+
+    ghost then = { Rests };
 }

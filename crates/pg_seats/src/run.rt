@@ -4,11 +4,12 @@ use pg_ir::Program;
 use pg_run_trace::Schedule;
 use std::collections::LinkedList;
 
-/// A run along a schedule: what the full guided run is computed from.
+/// A run along a schedule: what the full guided run is computed from; and which of the runs on these words it is, counted from 0.
 pub struct Run {
     pub program: Program,
     pub schedule: Schedule,
     pub input: LinkedList<i64>,
+    pub epoch: u64,
 }
 
 /// What the seat of a thread knows: how many of its shared steps of the full guided run are done; whether the next of these is
@@ -26,16 +27,18 @@ pub struct Standing {
 
 /// What a seat knows.
 pub enum View {
-    /// All words are 0, and no other seat is alive.
-    Idle,
+    /// So many runs were made. All words are 0, and no other seat is alive but old notes.
+    Idle(u64),
     /// The words are made ready for this run: granules below this number hold the bytes that the run begins with.
     Laying(Run, u64),
-    /// The seats of the threads below this number were split off.
-    Pool(Run, u64),
+    /// The seats of the threads below the first number were split off, and those of the threads below the second taken back.
+    Pool(Run, u64, u64),
     /// A thread's seat.
     Worker(Standing),
     /// So many turns are known to be done.
     Note(Run, u64),
+    /// The run is over: words below this number are 0 again, and so are those that it never wrote.
+    Sweeping(Run, u64),
     /// What is left of a seat that was joined into another: nothing is known.
     Spent,
 }

@@ -1,7 +1,7 @@
 //! Seats: those of threads, which are split off the pool's, and notes of turns that are done, which go from one seat to another.
 
 ghost use Rattle.std.specs.Prelude.{◌≡◌, [], true};
-ghost use Rattle.pg_seats.specs.Views.{may_look, may_split, may_tell, newcomer, noted, told, with_one_more};
+ghost use Rattle.pg_seats.specs.Views.{may_look, may_split, may_take, newcomer, noted, told, with_one_more};
 
 use crate::rule::{Newcomer, Noted, Place, RunWords};
 
@@ -34,7 +34,7 @@ pub fn note(words: &RunWords, seat: &mut Place) -> Place
 pub fn take_note(words: &RunWords, seat: &mut Place, note: Place)
     requires own { (seat.old.table_id ≡ words.now.table.shared.table_id) × (note.table_id ≡ words.now.table.shared.table_id) }
     requires bare { note.me.1 ≡ [] }
-    requires view { (may_look seat.old.me.0 ≡ true) × (may_tell note.me.0 ≡ true) }
+    requires view { may_take seat.old.me.0 note.me.0 ≡ true }
     ensures own { (seat.new.table_id ≡ seat.old.table_id) × (seat.new.id ≡ seat.old.id) }
     ensures view { seat.new.me ≡ (told seat.old.me.0 note.me.0, seat.old.me.1) }
 {

@@ -115,6 +115,16 @@ impl<V, K, R: TableRule<(), V, K>> Words<V, K, R> {
             .fetch_add::<M>(seat, TURN_WORD as usize, 1);
     }
 
+    /// Makes the number of turns that are done 0.
+    pub fn clear_turn<M: Play<(), V>>(&self, seat: &mut RunSeat<V>)
+        requires own { seat.old.table_id ≡ self.now.table.shared.table_id }
+        requires rule { AllowsStore (R.holds self.now.table.shared.key) seat.old.id seat.old.me TURN_WORD 0 M.then }
+        ensures own { (seat.new.table_id ≡ seat.old.table_id) × (seat.new.id ≡ seat.old.id) }
+        ensures told { M.then (step 0 TURN_WORD 0 0 none) seat.old.me 0 seat.new.me }
+    {
+        self.table.shared.store::<M>(seat, TURN_WORD as usize, 0);
+    }
+
     /// The word of a thread: its argument, and after its exit its value.
     pub fn get_exit<M: Play<(), V>>(&self, seat: &mut RunSeat<V>, thread: ThreadNo) -> u64
         requires own { seat.old.table_id ≡ self.now.table.shared.table_id }
