@@ -1,7 +1,7 @@
 -- One entry more of a book is loaded, and is kept.
 use Rattle.std.proofs.Common.{◌≡◌, ◌≤◌, ◌<◌, ◌+◌, ◌-◌, ℕ, zero, suc, List, [], ◌∷◌, ◌++◌, length, map, take, drop, get_or, Some, refl, sym, ap, subst, ◌∙◌, arith}
 use Rattle.std.specs.Prelude.{slice_get}
-use Rattle.std.proofs.lemmas.List.{length-append, map-append, take_more, take-map}
+use Rattle.std.proofs.lemmas.List.{length-append, map-append, take_more}
 use Rattle.pg_num.specs.declared.limits.TheConstants.{CACHE_LIMIT}
 use Rattle.pg_ir.specs.Program.{NumberedProgram}
 use Rattle.pg_book.specs.Parts.{BookEntryParts, parts_of}
@@ -67,7 +67,10 @@ few (x ∷ xs) (suc i) = let h = few xs i in omega (arith, h)
 abbrev pub AreKept : NumberedProgram → List BookEntry → ℕ → Kept EntryParts → Type 0
 AreKept p items i k = (k ≡ opened k.values) × AreLoaded p (map parts_of (take i items)) k.values
 
-module _ (p : NumberedProgram) (items : List BookEntry) (i : ℕ) (k : Kept EntryParts) (inside : i < length items) (kept : AreKept p items i k) where
+module _ (p : NumberedProgram) (items slice : List BookEntry) (same : slice ≡ items) (i : ℕ) (k : Kept EntryParts) (inside_slice : i < length slice) (kept : AreKept p items i k) where
+  inside : i < length items
+  inside = subst (λ (l : List BookEntry). i < length l) same inside_slice
+
   short : length items ≤ CACHE_LIMIT → length k.values < CACHE_LIMIT
   short h =
       let s = same_length p (map parts_of (take i items)) k.values kept.1 in
@@ -80,18 +83,19 @@ module _ (p : NumberedProgram) (items : List BookEntry) (i : ℕ) (k : Kept Entr
       let n : k.inserted ≡ length k.values = ap (λ (c : Kept EntryParts). c.inserted) kept.0 in
       omega (arith, s, n)
 
-  pub one_kept : (x d : BookEntry) (e : EntryParts) (next : Kept EntryParts) → length items ≤ CACHE_LIMIT → x ≡ get_or items i d → IsLoaded p (parts_of x) e
+  pub one_kept : (x d : BookEntry) (e : EntryParts) (next : Kept EntryParts) → length items ≤ CACHE_LIMIT → x ≡ get_or slice i d → IsLoaded p (parts_of x) e
       → next ≡ with_value e k → AreKept p items (i + 1) next
-  one_kept x d e next h is l n =
+  one_kept x d e next h at l n =
+      let is : x ≡ get_or items i d = at ∙ ap (λ (l : List BookEntry). get_or l i d) same in
       let grown : next ≡ opened (k.values ++ e ∷ []) = n ∙ ap (with_value e) kept.0 ∙ opened_more k.values e (short h) in
       let values : k.values ++ e ∷ [] ≡ next.values = ap (λ (c : Kept EntryParts). c.values) (sym grown) in
       (grown ∙ ap opened values, subst (AreLoaded p (map parts_of (take (i + 1) items))) values (loaded_more p items i d k.values e inside kept.1 (subst (λ y. IsLoaded p (parts_of y) e) is l)))
 
-  pub first_refused : (x d : BookEntry) (fault : LoadFault) → x ≡ get_or items i d → IsWhyNot p (parts_of x) fault → IsFirstRefused p (map parts_of items) i fault
-  first_refused x d fault is w = record {
+  pub first_refused : (x d : BookEntry) (fault : LoadFault) → x ≡ get_or slice i d → IsWhyNot p (parts_of x) fault → IsFirstRefused p (map parts_of items) i fault
+  first_refused x d fault at w = record {
     before = k.values;
     loaded = subst (λ (bs : List BookEntryParts). AreLoaded p bs k.values) (taken items i) kept.1;
     kept = parts_of x;
-    is_kept = part_at items i d inside ∙ ap (λ y. Some (parts_of y)) (sym is);
+    is_kept = part_at items i d inside ∙ ap (λ y. Some (parts_of y)) (sym (at ∙ ap (λ (l : List BookEntry). get_or l i d) same));
     why = w;
   }
