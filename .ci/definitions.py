@@ -177,7 +177,7 @@ class Texts:
                 return self.item_of(self.passed_on[crate, name])
             return found and ("src", crate, found[0], name)
         if (crate, module) not in self.specs:
-            return None
+            return self.item_of((*self.handed_on(crate)[module], name)) if module in self.handed_on(crate) else None
         _, (names, _, public), definitions = self.specs[crate, module]
         if name in definitions:
             return ("specs", crate, module, name)
@@ -187,6 +187,11 @@ class Texts:
         if name in public:
             return self.item_of(public[name])
         return None
+
+    def handed_on(self, crate):
+        """The modules of other crates that a crate hands on as its own, by a line `pub use` of specs/Lib.antt."""
+        _, (_, modules, _), _ = self.specs.get((crate, "Lib"), ("", ({}, {}, {}), {}))
+        return modules
 
     # ---- what an item names
 

@@ -11,20 +11,7 @@ import subprocess
 import threading
 
 from edit_output import STALE, Output
-from edit_texts import PARTS
-
-
-class Stopped(Exception):
-    """Why nothing can be said of a crate's wrong bodies."""
-
-
-def toolchain():
-    """Returns the folder of the toolchain that the command rt belongs to."""
-    command = shutil.which("rt")
-    folder = os.path.dirname(os.path.dirname(os.path.realpath(command))) if command else ""
-    if not os.path.isfile(f"{folder}/bin/rattle"):
-        raise Stopped("the toolchain's command rt wasn't found")
-    return folder
+from toolchain import PARTS, Stopped, Tree
 
 
 def link_or_copy(one, other):
@@ -40,23 +27,11 @@ def copy_kept(one, other):
     (link_or_copy if one.endswith(".oantt") else shutil.copy2)(one, other)
 
 
-def crates_of(root):
-    """Returns the crates of crates.txt, lowest first as there, with the libraries that each names."""
-    found = {}
-    with open(f"{root}/crates.txt", encoding="utf-8") as it:
-        for line in it:
-            head, is_crate, below = line.partition("#")[0].partition(":")
-            if is_crate and head.split():
-                found[head.split()[0]] = below.replace(",", " ").split()
-    return found
-
-
-class Scratch:
+class Scratch(Tree):
     """A copy of the repository in which crates are checked, and the processor time that this took."""
 
     def __init__(self, root, folder, after_ci):
-        self.root, self.folder, self.after_ci = root, folder, after_ci
-        self.crates, self.kit = crates_of(root), toolchain()
+        self.root, self.after_ci = root, after_ci
         self.running, self.is_stopped, self.lock = set(), False, threading.Lock()
         self.built, self.building = set(), threading.Lock()
         os.makedirs(f"{folder}/crates")
@@ -64,14 +39,12 @@ class Scratch:
         for name in ("crates.txt", "HANDLES"):
             if os.path.isfile(f"{root}/{name}"):
                 shutil.copyfile(f"{root}/{name}", f"{folder}/{name}")
+        super().__init__(folder)
         for crate in self.crates:
             for part in (*PARTS, "edits"):
                 if os.path.isdir(f"{root}/crates/{crate}/{part}"):
                     shutil.copytree(f"{root}/crates/{crate}/{part}", f"{self.at(crate)}/{part}")
             self.copy_library(crate)
-
-    def at(self, crate):
-        return f"{self.folder}/crates/{crate}"
 
     def copy_library(self, crate):
         if os.path.isdir(f"{self.root}/crates/{crate}/out/rlib"):
@@ -89,23 +62,12 @@ class Scratch:
         shutil.rmtree(f"{self.folder}/rooms/{crate}", ignore_errors=True)
         shutil.rmtree(f"{self.at(crate)}/out/incremental", ignore_errors=True)
 
-    def below(self, crate):
-        """Returns the repository's libraries below a crate."""
-        found = []
-        for name in self.crates[crate]:
-            if name in self.crates:
-                found += [it for it in [*self.below(name), name] if it not in found]
-        return found
-
-    def library(self, crate):
-        return f"{self.at(crate)}/out/rlib/{crate}.rlib"
-
     def is_of_ci(self, crate):
         """Returns whether a crate's library is the one that rt ci has just built of these files, after it had proved
-        them: it marks none with a stamp, as other commands do."""
+        them: it marks none, and other commands mark theirs with a stamp or a key."""
         it = self.library(crate)
-        has_stamp = os.path.exists(f"{os.path.dirname(it)}/stamp")
-        return self.after_ci and os.path.isfile(f"{it}/format") and not has_stamp
+        has_mark = any(os.path.exists(f"{os.path.dirname(it)}/{mark}") for mark in ("stamp", "key"))
+        return self.after_ci and os.path.isfile(f"{it}/format") and not has_mark
 
     def has_libraries_of_ci(self, crate):
         """Returns whether all libraries below a crate are those that rt ci has just built of these files."""
@@ -127,19 +89,9 @@ class Scratch:
             self.built.update(self.below(crate))
             return seconds
 
-    def words(self, crate, only):
+    def check_words(self, crate, only):
         """Returns the command that checks a crate over the libraries that stand in the scratch copy."""
-        root = "src/main.rt" if os.path.isfile(f"{self.at(crate)}/src/main.rt") else "src/lib.rt"
-        words = [f"{self.kit}/bin/rattle", "check", "--crate-name", crate, root]
-        for name in ["std", *[it for it in self.crates[crate] if it not in self.crates]]:
-            words += ["--extern", f"{name}={self.kit}/rlibs/{name}.rlib"]
-        words += ["-L", f"dependency={self.kit}/rlibs"]
-        for name in self.crates[crate]:
-            words += ["--extern", f"{name}={self.library(name)}"] if name in self.crates else []
-        for name in self.below(crate):
-            words += ["-L", f"dependency={os.path.dirname(self.library(name))}"]
-        words += ["--antt-project", f"{self.kit}/rattle/logic/antt-project.json"]
-        words += ["--logic-built", f"{self.kit}/logic_built", "--links", f"{crate}=", "--jobs", "1"]
+        words = [f"{self.kit}/bin/rattle", "check", *self.words(crate), "--jobs", "1"]
         words += ["--incremental", f"{self.at(crate)}/out/incremental"]
         return words + [word for it in only for word in ("--only", it)]
 
@@ -198,7 +150,7 @@ class Room:
     def checked(self, only):
         """Checks these functions, or with none the whole crate, as the room's texts stand."""
         for _ in range(2):
-            status, text, seconds = self.scratch.run(self.scratch.words(self.crate, only), self.at)
+            status, text, seconds = self.scratch.run(self.scratch.check_words(self.crate, only), self.at)
             self.seconds += seconds
             # (killed, most likely for memory: once more)
             if status != -signal.SIGKILL:

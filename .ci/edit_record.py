@@ -5,23 +5,10 @@ import hashlib
 import os
 import subprocess
 
-from edit_checks import crates_of
-from edit_texts import PARTS
+from toolchain import PARTS, crates_of, sum_of_files
 
 RECORD = ".ci/edits.tried"
 HEAD = "# crate, checksum of what its wrong bodies stand on, date, toolchain: see .ci/edits\n"
-
-
-def sum_of_files(folder, parts):
-    """Returns a checksum of the files in these parts of a crate's folder."""
-    made = hashlib.sha256()
-    for part in parts:
-        for at, folders, files in os.walk(f"{folder}/{part}"):
-            folders.sort()
-            for name in sorted(files):
-                with open(f"{at}/{name}", "rb") as it:
-                    made.update(repr((os.path.relpath(f"{at}/{name}", folder), it.read())).encode())
-    return made.hexdigest()
 
 
 def checksums(root):

@@ -8,7 +8,7 @@ import dataclasses
 import os
 import re
 
-PARTS = ("src", "specs", "proofs")
+from toolchain import PARTS
 
 FUNCTION = re.compile(r'( *)(?:pub(?:\([^)]*\))? )?(?:(?:const|unsafe|ghost|extern "C") )*fn (\w+)')
 CONTEXT = re.compile(r"( *)(?:pub(?:\([^)]*\))? )?(?:unsafe )?(impl|trait|mod)\b(.*)")

@@ -5,9 +5,10 @@ import os
 import re
 import shutil
 
-from edit_checks import Room, Stopped
+from edit_checks import Room
 from edit_output import GOAL, LIMIT, LOST, PROVED
 from edit_texts import BadEdit, read_edit, types_of
+from toolchain import Stopped
 
 
 @dataclasses.dataclass

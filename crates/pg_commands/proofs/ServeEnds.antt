@@ -9,7 +9,7 @@ use Rattle.pg_io.specs.Streams.{AppendsFront, TakesAtMost}
 use Rattle.pg_commands_words.specs.Pieces.{Word}
 use Rattle.pg_commands_words.specs.Commands.{serve}
 use Rattle.pg_cache.specs.Kept.{Kept}
-use Rattle.pg_session_entry.specs.Entries.{EntryParts}
+use Rattle.pg_session_runner.specs.Entries.{EntryParts}
 use Rattle.pg_session.specs.Lines.{lines_of}
 use Rattle.pg_session.specs.Sessions.{begin}
 use Rattle.pg_session.specs.Texts.{HasBytes, ServesAll, ServesFront, ServesLimit, ServesTaken}

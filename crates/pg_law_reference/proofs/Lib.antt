@@ -10,3 +10,4 @@ pub mod SummariesExist
 pub mod BranchRegions
 pub mod ExitingRuns
 pub mod SliceableRuns
+pub use Rattle.pg_slice_passes.proofs.Slicing

@@ -1,1 +1,3 @@
 pub mod Sliceable
+pub use Rattle.pg_slice_passes.specs.Given
+pub use Rattle.pg_slice_passes.specs.Listed

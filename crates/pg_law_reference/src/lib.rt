@@ -3,3 +3,5 @@
 #![tactic(auto)]
 
 pub mod laws;
+
+pub use pg_slice_passes::{GivenRun, Slice, fits};

@@ -18,8 +18,8 @@ use Rattle.pg_run.specs.State.{State, exit_value_of}
 use Rattle.pg_run.proofs.GuidedPermitted.{guided_permitted}
 use Rattle.pg_slice_rules.specs.Freeable.{Regions}
 use Rattle.pg_slice_rules.specs.Known.{Taken}
-use Rattle.pg_slice_replay.specs.OfRegions.{AreRegions}
-use Rattle.pg_law_reference.proofs.BranchRegions.{regions_are}
+use Rattle.pg_session_entry.specs.OfRegions.{AreRegions}
+use Rattle.pg_session_entry.proofs.BranchRegions.{regions_are}
 use Rattle.pg_law_runs.specs.Cuts.{CanRun, IsOrderedAlong, steps_by}
 use Rattle.pg_law_runs.specs.Deeds.{owners_of}
 use Rattle.pg_law_runs.specs.LastTurns.{IsRecorded}

@@ -1,0 +1,3 @@
+pub use Rattle.pg_session_entry.specs.Entries
+pub use Rattle.pg_session_entry.specs.Faults
+pub use Rattle.pg_session_entry.specs.Records

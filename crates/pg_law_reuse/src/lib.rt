@@ -2,3 +2,5 @@
 #![tactic(auto)]
 
 pub mod laws;
+
+pub use pg_session_entry::{Entry, FromFault, Record, from_turns, record};

@@ -2,3 +2,5 @@ pub mod RaceInstructions
 pub mod FollowedSchedules
 pub mod MappedLists
 pub mod EntryParts
+pub use Rattle.pg_law_reference.proofs.BranchRegions
+pub use Rattle.pg_law_reference.proofs.Slicing

@@ -10,7 +10,7 @@ use Rattle.pg_law_threads.specs.Intervals.{Timed}
 use Rattle.pg_run_trace.specs.declared.step.Step.{Step}
 use Rattle.pg_run_trace.specs.declared.turn.Race.{Race}
 use Rattle.pg_run_trace.specs.Races.{asked, instrs_in, is_racing, is_unordered, race_at, race_in, race_of, race_with, races_below, races_of, schedule_of, timed_by}
-use Rattle.pg_slice_passes.specs.Given.{AreSteps}
+use Rattle.pg_law_reference.specs.Given.{AreSteps}
 
 with_instr : (id i : ℕ) (o : Option ℕ) → IfSome (race_with id i o) (λ (r : Race). r.instr.0 ≡ id)
 with_instr id i None = tt

@@ -21,7 +21,7 @@ use Rattle.pg_slice_rules.specs.Known.{Taken}
 use Rattle.pg_slice_rules.specs.Sets.{taken}
 use Rattle.pg_slice_decisions.specs.Marks.{members_from}
 use Rattle.pg_slice_replay.specs.OfRegions.{AreRegions}
-use Rattle.pg_slice_passes.specs.Given.{reference_of}
+use Rattle.pg_law_reference.specs.Given.{reference_of}
 
 -- ---- what an entry tells
 

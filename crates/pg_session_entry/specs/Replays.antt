@@ -7,7 +7,7 @@ use Rattle.pg_region_summaries.specs.Summaries.{AreSummaries}
 use Rattle.pg_run_trace.specs.declared.step.Step.{Step}
 use Rattle.pg_slice_replay.specs.declared.run.ReferenceRun.{ReferenceRun}
 use Rattle.pg_slice_replay.specs.Kept.{step_count}
-use Rattle.pg_slice_passes.specs.Given.{EdgesStand}
+use Rattle.pg_law_reference.specs.Given.{EdgesStand}
 use Rattle.pg_law_reference.specs.Sliceable.{HasItsLandmarks}
 
 -- what is kept of a replay are the landmarks of the run, by what quiet functions access

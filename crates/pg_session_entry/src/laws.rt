@@ -21,9 +21,9 @@ use pg_law_order::recorded::{
     a_recorded_run_is_ordered_up_to_its_last_turns, the_schedule_of_a_recorded_run_is_good,
 };
 use pg_law_own_input::reference_runs::a_reference_run_admits_its_own_input;
+use pg_law_reference::fits::runs_fit;
 use pg_law_reference::laws::regions_exist;
 use pg_run::guided_laws::a_guided_run_is_permitted;
-use pg_slice_passes::fits::runs_fit;
 
 /// Following the schedule of a run that exits, it exits with the same value and prints the same.
 pub fn the_schedule_of_a_recorded_run_is_followed()

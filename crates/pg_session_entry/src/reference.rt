@@ -5,7 +5,7 @@ ghost use Rattle.pg_run.specs.Follow.{Exits, following_of};
 ghost use Rattle.pg_law_runs.specs.Cuts.{CanRun};
 ghost use Rattle.pg_slice_rules.specs.Sets.{taken};
 ghost use Rattle.pg_law_reference.specs.Sliceable.{CanBeSliced};
-ghost use Rattle.pg_slice_passes.specs.Listed.{AreListed};
+ghost use Rattle.pg_law_reference.specs.Listed.{AreListed};
 ghost use Rattle.pg_session_entry.specs.Entries.{IsSliced, ServesAlong};
 ghost use Rattle.pg_session_entry.specs.Replays.{IsReplayed};
 
@@ -14,12 +14,12 @@ use crate::ids::ids_of;
 use crate::laws::the_own_input_is_admitted;
 use pg_ir::{InstrId, Program};
 use pg_law_reference::laws::{exiting_runs_can_be_sliced, replays_have_edges};
+use pg_law_reference::{GivenRun, Slice};
 use pg_precondition::Scratch;
 use pg_region_summaries::summaries;
 use pg_run_trace::{Race, Schedule, Trace};
 use pg_schedule::{Turns, intervals};
 use pg_slice::slice;
-use pg_slice_passes::{GivenRun, Slice};
 use pg_slice_replay::{ReferenceRun, reference};
 use std::alloc::{AllocError, Global};
 

@@ -13,17 +13,19 @@ use Rattle.pg_run.specs.declared.outcome.Outcome.TheVariants as outcomes
 use Rattle.pg_run.specs.MachineStep.{trap_of}
 use Rattle.pg_run.specs.Follow.{Exits, following_of}
 use Rattle.pg_run.specs.Permitted.{IsPermitted, end_before, full_end, has_spent, trapped, turns_left}
+use Rattle.pg_run.specs.Recordings.{IsRecording}
 use Rattle.pg_run.specs.Rotation.{rotation_of}
 use Rattle.pg_run.specs.Runs.{events}
 use Rattle.pg_run.specs.State.{State, exit_value_of, next_of}
 use Rattle.pg_session_texts.specs.declared.reply.EndLine.{EndLine}
 use Rattle.pg_session_texts.specs.declared.reply.ReplyKind.TheVariants.{Recorded}
-use Rattle.pg_session_entry.specs.Entries.{EntryParts}
+use Rattle.pg_law_reuse.specs.Entries.{EntryParts}
 use Rattle.pg_law_order.specs.Served.{EndsAsGuided, guided_along}
 use Rattle.pg_law_order.proofs.ExitsHaveAllTurns.{exits_with}
 use Rattle.pg_session.specs.Sessions.{Answer, AnswersAll, opened}
 use Rattle.pg_session_runner.specs.Headline.{IsAsReplied, IsRecordedLine, IsServedRecording}
-use Rattle.pg_session_runner.specs.Runs.{IsKept, end_line_of, entry_admits, runs_of}
+use Rattle.pg_session_runner.specs.Runs.{IsKept, Way, end_line_of, entry_admits, runs_by}
+use Rattle.pg_session_runner.proofs.RecordedWays.{is_recording}
 use Rattle.pg_session_runner.proofs.ReusedLines.{goes_on}
 use Rattle.pg_session_runner.proofs.RecordedEntries.{Records, records}
 
@@ -46,23 +48,22 @@ all_turns p input us gated xs z value h e =
 
 -- ---- what the laws say of recordings
 
-module _ (p : NumberedProgram) (quantum : ℕ) where
-  -- a rotation run that exits, exits with main's value
-  abbrev pub ExitsSo : Type 0
-  ExitsSo = (own : List ℤ) (value : ℤ) → (rotation_of p own quantum).end ≡ outcomes.Exit value → value ≡ exit_value_of (rotation_of p own quantum).state
+module _ (p : NumberedProgram) (way : Way) where
+  -- each rotation is a recording
+  abbrev pub AreRecordings : Type 0
+  AreRecordings = (own : List ℤ) (quantum : ℕ) → IsRecording p own (rotation_of p own quantum).trace (rotation_of p own quantum).state (rotation_of p own quantum).end
 
   -- the guided run along its schedule exits with that value, having printed the same
-  exits_along : (own : List ℤ) (e : EntryParts) (output : List ℕ) (end : EndLine) → (k : IsKept p quantum own e output end)
-      → ((guided_along p own e.schedule).end ≡ guided.Exit (exit_value_of (rotation_of p own quantum).state))
-      × ((guided_along p own e.schedule).state.printed ≡ (rotation_of p own quantum).state.printed)
+  exits_along : (own : List ℤ) (e : EntryParts) (output : List ℕ) (end : EndLine) → (k : IsKept p way own e output end)
+      → ((guided_along p own e.schedule).end ≡ guided.Exit (exit_value_of k.state)) × ((guided_along p own e.schedule).state.printed ≡ k.state.printed)
   exits_along own e output end k =
-      let z = (rotation_of p own quantum).state in
+      let z = k.state in
       let i = k.is_entry in
       exits_with p own e.schedule.turns e.schedule.gated i.steps z.printed (exit_value_of z)
       (subst (λ (l : List ℤ). following_of p l e.schedule.turns e.schedule.gated ≡ Exits i.steps z.printed (exit_value_of z)) i.same_input i.serves.exits)
 
-  as_replied : (own : List ℤ) (e : EntryParts) (output : List ℕ) (end : EndLine) (xs : List Step) (z : State) → (k : IsKept p quantum own e output end)
-      → k.value ≡ exit_value_of (rotation_of p own quantum).state → IsPermitted p own e.schedule.turns e.schedule.gated xs z → EndsAsGuided p own e.schedule xs z → IsAsReplied p e.schedule xs z output end
+  as_replied : (own : List ℤ) (e : EntryParts) (output : List ℕ) (end : EndLine) (xs : List Step) (z : State) → (k : IsKept p way own e output end)
+      → k.value ≡ exit_value_of k.state → IsPermitted p own e.schedule.turns e.schedule.gated xs z → EndsAsGuided p own e.schedule xs z → IsAsReplied p e.schedule xs z output end
   as_replied own e output end xs z k v permitted h =
       let g = exits_along own e output end k in
       let ended : full_end p e.schedule.turns xs z ≡ guided.Exit k.value = h.end ∙ g.0 ∙ ap (λ (n : ℤ). guided.Exit n) (sym v) in
@@ -76,7 +77,7 @@ module _ (p : NumberedProgram) (quantum : ℕ) where
   -- ---- a line that was recorded
 
   module _ (given : List EntryParts) (inputs : List (Option (List ℤ))) (answers : List Answer) (line number : ℕ) where
-    abbrev recorded_line : (r : Records entry_admits (runs_of p quantum) (length given) inputs answers line number) → IsRecordedLine p quantum given inputs answers line number r.entry
+    abbrev recorded_line : (r : Records entry_admits (runs_by p way) (length given) inputs answers line number) → IsRecordedLine p way given inputs answers line number r.entry
     recorded_line r = record {
       input = r.reply.input;
       is_input = r.reply.is_input;
@@ -87,12 +88,12 @@ module _ (p : NumberedProgram) (quantum : ℕ) where
       recording = r.recording;
     }
 
-    served_line : ExitsSo → Records entry_admits (runs_of p quantum) (length given) inputs answers line number → IsServedRecording p quantum given inputs answers line number
-    served_line exits_so r =
+    served_line : AreRecordings → Records entry_admits (runs_by p way) (length given) inputs answers line number → IsServedRecording p way given inputs answers line number
+    served_line rotations r =
         let own = r.reply.input in
         let e = r.entry in
         let k = r.recording in
-        let v = exits_so own k.value k.exits in
+        let v = (is_recording p way own k.steps k.state (outcomes.Exit k.value) (rotations own) k.exits).ends.1 in
         record {
           entry = e;
           made = recorded_line r;
@@ -101,6 +102,6 @@ module _ (p : NumberedProgram) (quantum : ℕ) where
           served = k.served;
         }
 
-    pub line_is_served : ExitsSo → (kept : Kept EntryParts) → AnswersAll entry_admits (runs_of p quantum) (opened given) inputs answers kept
-        → (a : Answer) → slice_get answers line ≡ Some a → a.kind ≡ Recorded number → IsServedRecording p quantum given inputs answers line number
-    line_is_served exits_so kept h a g k = served_line exits_so (records entry_admits (runs_of p quantum) (opened given) kept inputs answers h line number a g k)
+    pub line_is_served : AreRecordings → (kept : Kept EntryParts) → AnswersAll entry_admits (runs_by p way) (opened given) inputs answers kept
+        → (a : Answer) → slice_get answers line ≡ Some a → a.kind ≡ Recorded number → IsServedRecording p way given inputs answers line number
+    line_is_served rotations kept h a g k = served_line rotations (records entry_admits (runs_by p way) (opened given) kept inputs answers h line number a g k)

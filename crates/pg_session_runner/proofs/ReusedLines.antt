@@ -11,12 +11,12 @@ use Rattle.pg_run.specs.Runs.{events}
 use Rattle.pg_run.specs.State.{State}
 use Rattle.pg_session_texts.specs.declared.reply.EndLine.{EndLine}
 use Rattle.pg_session_texts.specs.declared.reply.ReplyKind.TheVariants.{Reused}
-use Rattle.pg_session_entry.specs.Entries.{EntryParts}
+use Rattle.pg_law_reuse.specs.Entries.{EntryParts}
 use Rattle.pg_law_order.specs.Served.{EndsAsGuided, RunsAsGuided, guided_along}
 use Rattle.pg_session.specs.Sessions.{Answer, AnswersAll, opened}
 use Rattle.pg_session.proofs.KeptEntries.{at_place}
 use Rattle.pg_session_runner.specs.Headline.{GoesOn, HasOrigin, IsAsReplied, IsRecordedLine, IsReusedLine, of_given, of_line}
-use Rattle.pg_session_runner.specs.Runs.{IsGiven, RunsAlong, end_line_of, entry_admits, runs_of}
+use Rattle.pg_session_runner.specs.Runs.{IsGiven, RunsAlong, Way, end_line_of, entry_admits, runs_by}
 use Rattle.pg_session_runner.proofs.KeptInsertions.{Fits, from_oldest}
 use Rattle.pg_session_runner.proofs.ReusedEntries.{Made, Reuses, reuses}
 use Rattle.pg_session_runner.proofs.TurnCounts.{turns_taken}
@@ -42,8 +42,8 @@ given_at given n e h =
 
 -- ---- a line
 
-module _ (p : NumberedProgram) (quantum : ℕ) (given : List EntryParts) (inputs : List (Option (List ℤ))) (answers : List Answer) (line number : ℕ) where
-  recorded_line : (entry : EntryParts) (m : Made entry_admits (runs_of p quantum) (length given) inputs answers line number entry) → IsRecordedLine p quantum given inputs answers m.earlier number entry
+module _ (p : NumberedProgram) (way : Way) (given : List EntryParts) (inputs : List (Option (List ℤ))) (answers : List Answer) (line number : ℕ) where
+  recorded_line : (entry : EntryParts) (m : Made entry_admits (runs_by p way) (length given) inputs answers line number entry) → IsRecordedLine p way given inputs answers m.earlier number entry
   recorded_line entry m = record {
     input = m.reply.input;
     is_input = m.reply.is_input;
@@ -55,15 +55,15 @@ module _ (p : NumberedProgram) (quantum : ℕ) (given : List EntryParts) (inputs
   }
 
   origin : (entry : EntryParts) → All (IsGiven p) given
-      → (value_of (opened given) number ≡ Some entry) ⊎ Made entry_admits (runs_of p quantum) (length given) inputs answers line number entry
-      → HasOrigin p quantum given inputs answers line number entry
+      → (value_of (opened given) number ≡ Some entry) ⊎ Made entry_admits (runs_by p way) (length given) inputs answers line number entry
+      → HasOrigin p way given inputs answers line number entry
   origin entry are_given (inl h) =
       let e = given_at given number entry h in
       of_given e (at_place (IsGiven p) given number entry are_given e)
   origin entry are_given (inr m) = of_line m.earlier m.before (recorded_line entry m)
 
-  reused_line : All (IsGiven p) given → Reuses entry_admits (runs_of p quantum) (opened given) inputs answers line number
-      → IsReusedLine p quantum given inputs answers line number
+  reused_line : All (IsGiven p) given → Reuses entry_admits (runs_by p way) (opened given) inputs answers line number
+      → IsReusedLine p way given inputs answers line number
   reused_line are_given r =
       record {
         input = r.reply.input;
@@ -81,8 +81,8 @@ module _ (p : NumberedProgram) (quantum : ℕ) (given : List EntryParts) (inputs
         served = r.run.served;
       }
 
-  pub line_is_served : All (IsGiven p) given → (kept : Kept EntryParts) → AnswersAll entry_admits (runs_of p quantum) (opened given) inputs answers kept
-      → (a : Answer) → slice_get answers line ≡ Some a → a.kind ≡ Reused number → IsReusedLine p quantum given inputs answers line number
+  pub line_is_served : All (IsGiven p) given → (kept : Kept EntryParts) → AnswersAll entry_admits (runs_by p way) (opened given) inputs answers kept
+      → (a : Answer) → slice_get answers line ≡ Some a → a.kind ≡ Reused number → IsReusedLine p way given inputs answers line number
   line_is_served are_given kept h a g k =
       let fits : Fits (opened given) = omega arith in
-      reused_line are_given (reuses entry_admits (runs_of p quantum) (opened given) kept inputs answers fits h line number a g k)
+      reused_line are_given (reuses entry_admits (runs_by p way) (opened given) kept inputs answers fits h line number a g k)

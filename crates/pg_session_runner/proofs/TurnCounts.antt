@@ -14,7 +14,7 @@ use Rattle.pg_run.specs.Guided.{Walk, all_left, ended_at, guided, guided_of, wal
 use Rattle.pg_run.specs.Runs.{event_of, events}
 use Rattle.pg_run.specs.State.{State, initial}
 use Rattle.pg_law_runs.specs.LastTurns.{IsRecorded}
-use Rattle.pg_session_entry.specs.Entries.{EntryParts, IsEntry}
+use Rattle.pg_law_reuse.specs.Entries.{EntryParts, IsEntry}
 
 -- ---- of a recorded schedule
 

@@ -8,7 +8,7 @@ use Rattle.pg_ir.specs.declared.instr.Op.TheVariants as op
 use Rattle.pg_ir.specs.Program.{NumberedProgram}
 use Rattle.pg_run_trace.specs.declared.turn.Turn.{Turn}
 use Rattle.pg_run.specs.Follow.{following_of}
-use Rattle.pg_session_entry.specs.Faults.{IsFault}
+use Rattle.pg_law_reuse.specs.Faults.{IsFault}
 use Rattle.pg_session_runner.specs.declared.loading.LoadFault.{LoadFault}
 use Rattle.pg_session_runner.specs.declared.loading.LoadFault.TheVariants as faults
 

@@ -5,13 +5,17 @@ use Rattle.pg_ir.specs.Program.{NumberedProgram}
 use Rattle.pg_precondition.specs.Values.{is_admitted}
 use Rattle.pg_run.specs.declared.guided_end.GuidedEnd.{GuidedEnd}
 use Rattle.pg_run.specs.declared.guided_end.GuidedEnd.TheVariants as guided
+use Rattle.pg_run.specs.declared.outcome.Outcome.{Outcome}
 use Rattle.pg_run.specs.declared.outcome.Outcome.TheVariants as outcomes
+use Rattle.pg_run.specs.Recordings.{IsRecording}
 use Rattle.pg_run.specs.Rotation.{rotation_of}
+use Rattle.pg_run.specs.State.{State}
+use Rattle.pg_run_trace.specs.declared.step.Step.{Step}
 use Rattle.pg_law_runs.specs.Cuts.{CanRun}
 use Rattle.pg_session_texts.specs.declared.reply.EndLine.{EndLine}
 use Rattle.pg_session_texts.specs.declared.reply.EndLine.TheVariants as ends
 use Rattle.pg_session_texts.specs.Shows.{show_text}
-use Rattle.pg_session_entry.specs.Entries.{EntryParts, IsEntry, IsEntryOfTurns}
+use Rattle.pg_law_reuse.specs.Entries.{EntryParts, IsEntry, IsEntryOfTurns}
 use Rattle.pg_law_order.specs.Served.{IsServed, guided_along}
 use Rattle.pg_run.specs.declared.outcome.Refusal.{Refusal}
 use Rattle.pg_session.specs.Counts.{Counts}
@@ -19,22 +23,37 @@ use Rattle.pg_session.specs.Sessions.{Runs}
 
 -- ---- recording
 
--- the rotation run of the program on the input exits: this is the entry of that run, this is what it printed, and this is how
+-- how inputs are recorded: by rotation with this quantum, or with the threads in any order in which they are ready
+pub data Way : Type 0 where
+  rotating : ℕ → Way
+  freely : Way
+
+-- these steps are a recording of the program on the input that was made so, lead to the state z, and end so
+abbrev pub IsRecordedBy : NumberedProgram → Way → List ℤ → List Step → State → Outcome → Type 0
+IsRecordedBy p (rotating quantum) input xs z end =
+    (xs ≡ (rotation_of p input quantum).trace) × (z ≡ (rotation_of p input quantum).state) × (end ≡ (rotation_of p input quantum).end)
+IsRecordedBy p freely input xs z end = IsRecording p input xs z end
+
+-- a recording of the program on the input exits: this is the entry of that run, this is what it printed, and this is how
 -- the guided run along the entry's schedule ends, which does all turns; and
-pub record IsKept (p : NumberedProgram) (quantum : ℕ) (input : List ℤ) (entry : EntryParts) (output : List ℕ) (end : EndLine) : Type 0 where
+pub record IsKept (p : NumberedProgram) (way : Way) (input : List ℤ) (entry : EntryParts) (output : List ℕ) (end : EndLine) : Type 0 where
+  pub steps : List Step
+  pub state : State
   pub value : ℤ
-  pub exits : (rotation_of p input quantum).end ≡ outcomes.Exit value
-  pub is_entry : IsEntry p input (rotation_of p input quantum).trace (rotation_of p input quantum).state entry
-  pub printed : output ≡ (rotation_of p input quantum).state.printed
+  pub exits : IsRecordedBy p way input steps state (outcomes.Exit value)
+  pub is_entry : IsEntry p input steps state entry
+  pub printed : output ≡ state.printed
   pub ends : end ≡ ends.Exit value (length entry.schedule.turns)
   -- each run of the program on the input that the entry's turns permit is as that run: it goes on until it is full, and then
   -- has printed the same and ends in the same way
   pub served : IsServed p input entry.schedule
 
--- the rotation run of the program on the input ends so, and this is what it printed
-pub record IsNotKept (p : NumberedProgram) (quantum : ℕ) (input : List ℤ) (refusal : Refusal) (output : List ℕ) : Type 0 where
-  pub ends : (rotation_of p input quantum).end ≡ outcomes.Refused refusal
-  pub printed : output ≡ (rotation_of p input quantum).state.printed
+-- a recording of the program on the input ends so, and this is what it printed
+pub record IsNotKept (p : NumberedProgram) (way : Way) (input : List ℤ) (refusal : Refusal) (output : List ℕ) : Type 0 where
+  pub steps : List Step
+  pub state : State
+  pub ends : IsRecordedBy p way input steps state (outcomes.Refused refusal)
+  pub printed : output ≡ state.printed
 
 -- ---- given turns
 
@@ -71,9 +90,13 @@ pub record Running : Type 0 where
   pub subject : Subject
   pub counts : Counts
 
--- the runs of a program, recorded in rotation with this quantum
+-- the runs of a program, recorded in this way
+abbrev pub runs_by : NumberedProgram → Way → Runs EntryParts
+runs_by p way = record { recorded = IsKept p way; refused = IsNotKept p way; along = RunsAlong p; given = IsGiven p }
+
+-- the runs of a program, recorded by rotation with this quantum
 abbrev pub runs_of : NumberedProgram → ℕ → Runs EntryParts
-runs_of p quantum = record { recorded = IsKept p quantum; refused = IsNotKept p quantum; along = RunsAlong p; given = IsGiven p }
+runs_of p quantum = runs_by p (rotating quantum)
 
 -- what an input must give so that an entry's schedule serves it
 abbrev pub entry_admits : EntryParts → List ℤ → Bool

@@ -4,9 +4,9 @@ ghost use Rattle.pg_law_order.specs.Served.{IsServed};
 ghost use Rattle.pg_session_runner.specs.Runs.{RunsAlong, end_line_of};
 
 use pg_ir::Program;
+use pg_law_reuse::Entry;
 use pg_run::{Guided, GuidedEnd, guide};
 use pg_session::Run;
-use pg_session_entry::Entry;
 use pg_session_texts::EndLine;
 use std::alloc::{AllocError, Global};
 

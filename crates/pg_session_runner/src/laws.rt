@@ -6,16 +6,17 @@ ghost use Rattle.pg_run.specs.Rotation.{rotation_of};
 ghost use Rattle.pg_law_runs.specs.Cuts.{CanRun};
 ghost use Rattle.pg_session_texts.specs.declared.reply.EndLine.{EndLine};
 ghost use Rattle.pg_session_texts.specs.declared.reply.ReplyKind.TheVariants.{Recorded, Reused};
-ghost use Rattle.pg_session_entry.specs.Entries.{EntryParts, IsEntry};
+ghost use Rattle.pg_law_reuse.specs.Entries.{EntryParts, IsEntry};
 ghost use Rattle.pg_law_order.specs.Good.{IsGoodRun};
 ghost use Rattle.pg_law_order.specs.Served.{IsServed};
 ghost use Rattle.pg_session.specs.Sessions.{Answer, AnswersAll, IsEntryOf, opened};
 ghost use Rattle.pg_session_runner.specs.Headline.{IsReusedLine, IsServedRecording};
-ghost use Rattle.pg_session_runner.specs.Runs.{IsGiven, IsKept, entry_admits, runs_of};
+ghost use Rattle.pg_session_runner.specs.Runs.{IsGiven, IsKept, Way, entry_admits, runs_by};
 
 use pg_law_order::recorded::the_schedule_of_a_rotation_run_is_good;
 use pg_law_reuse::laws::{an_entry_of_turns_serves_what_it_admits, an_entry_serves_what_it_admits};
 use pg_run::Outcome;
+use pg_run::laws::a_rotation_is_a_run;
 
 /// The schedule of a recorded run has so few turns that 32 bits count them.
 pub fn a_recorded_schedule_has_few_turns()
@@ -27,45 +28,45 @@ pub fn a_recorded_schedule_has_few_turns()
 
 /// The entry of a recording has a good run on each input that its precondition admits, and its schedule serves the input.
 pub fn a_kept_entry_serves_what_it_admits()
-    ensures good { (p : NumberedProgram) (quantum : ℕ) (own input : List ℤ) (entry : EntryParts) (output : List ℕ) (end : EndLine) → CanRun p own → IsKept p quantum own entry output end
+    ensures good { (p : NumberedProgram) (way : Way) (own input : List ℤ) (entry : EntryParts) (output : List ℕ) (end : EndLine) → CanRun p own → IsKept p way own entry output end
         → length input < 2 ^ 64 → entry_admits entry input ≡ true → IsGoodRun p input entry.schedule }
-    ensures served { (p : NumberedProgram) (quantum : ℕ) (own input : List ℤ) (entry : EntryParts) (output : List ℕ) (end : EndLine) → CanRun p own → IsKept p quantum own entry output end
+    ensures served { (p : NumberedProgram) (way : Way) (own input : List ℤ) (entry : EntryParts) (output : List ℕ) (end : EndLine) → CanRun p own → IsKept p way own entry output end
         → length input < 2 ^ 64 → entry_admits entry input ≡ true → IsServed p input entry.schedule }
 {
-    the_schedule_of_a_rotation_run_is_good();
+    a_rotation_is_a_run();
     an_entry_serves_what_it_admits();
 }
 
 /// Each entry of a program, of a recording or of given turns, has a good run on each input that its precondition admits, and its
 /// schedule serves the input.
 pub fn each_entry_serves_what_it_admits()
-    ensures good { (p : NumberedProgram) (quantum : ℕ) (input : List ℤ) (entry : EntryParts) → CanRun p entry.input → IsEntryOf (runs_of p quantum) entry → length input < 2 ^ 64
+    ensures good { (p : NumberedProgram) (way : Way) (input : List ℤ) (entry : EntryParts) → CanRun p entry.input → IsEntryOf (runs_by p way) entry → length input < 2 ^ 64
         → entry_admits entry input ≡ true → IsGoodRun p input entry.schedule }
-    ensures served { (p : NumberedProgram) (quantum : ℕ) (input : List ℤ) (entry : EntryParts) → CanRun p entry.input → IsEntryOf (runs_of p quantum) entry → length input < 2 ^ 64
+    ensures served { (p : NumberedProgram) (way : Way) (input : List ℤ) (entry : EntryParts) → CanRun p entry.input → IsEntryOf (runs_by p way) entry → length input < 2 ^ 64
         → entry_admits entry input ≡ true → IsServed p input entry.schedule }
 {
     a_kept_entry_serves_what_it_admits();
     an_entry_of_turns_serves_what_it_admits();
 }
 
-/// In a session that begins with entries of given turns and records the runs of a program with this quantum, each line that is
+/// In a session that begins with entries of given turns and records the runs of a program in this way, each line that is
 /// answered by reuse is answered by an entry that an earlier line left, or by one with which the session began, and that admits
 /// the line's input; and the reply is that of every run of the program on the input that the entry's turns permit: each goes on
 /// until it is full, is ordered, printed the same, and ended in the same way.
 pub fn each_reused_line_is_served()
-    ensures { (p : NumberedProgram) (quantum : ℕ) (given : List EntryParts) (inputs : List (Option (List ℤ))) (answers : List Answer) (kept : Kept EntryParts)
-        → All (IsGiven p) given → AnswersAll entry_admits (runs_of p quantum) (opened given) inputs answers kept
+    ensures { (p : NumberedProgram) (way : Way) (given : List EntryParts) (inputs : List (Option (List ℤ))) (answers : List Answer) (kept : Kept EntryParts)
+        → All (IsGiven p) given → AnswersAll entry_admits (runs_by p way) (opened given) inputs answers kept
         → (line number : ℕ) (answer : Answer) → slice_get answers line ≡ Some answer → answer.kind ≡ Reused number
-        → IsReusedLine p quantum given inputs answers line number }
+        → IsReusedLine p way given inputs answers line number }
 {}
 
 /// And each line that is recorded gets the reply of every run of the program on the line's input that the turns of its own entry
 /// permit.
 pub fn each_recorded_line_is_served()
-    ensures { (p : NumberedProgram) (quantum : ℕ) (given : List EntryParts) (inputs : List (Option (List ℤ))) (answers : List Answer) (kept : Kept EntryParts)
-        → AnswersAll entry_admits (runs_of p quantum) (opened given) inputs answers kept → (line number : ℕ) (answer : Answer)
+    ensures { (p : NumberedProgram) (way : Way) (given : List EntryParts) (inputs : List (Option (List ℤ))) (answers : List Answer) (kept : Kept EntryParts)
+        → AnswersAll entry_admits (runs_by p way) (opened given) inputs answers kept → (line number : ℕ) (answer : Answer)
         → slice_get answers line ≡ Some answer → answer.kind ≡ Recorded number
-        → IsServedRecording p quantum given inputs answers line number }
+        → IsServedRecording p way given inputs answers line number }
 {
-    the_schedule_of_a_rotation_run_is_good();
+    a_rotation_is_a_run();
 }

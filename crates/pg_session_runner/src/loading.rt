@@ -1,13 +1,13 @@
 //! Loading: the entry of turns that are given, which are those of an entry that was kept elsewhere. Nothing of it is trusted.
 ghost use Rattle.std.specs.Prelude.{◌≡◌, true, IfErr, IfOk};
 ghost use Rattle.pg_law_runs.specs.Cuts.{CanRun};
-ghost use Rattle.pg_session_entry.specs.Entries.{IsEntryOfTurns};
+ghost use Rattle.pg_law_reuse.specs.Entries.{IsEntryOfTurns};
 ghost use Rattle.pg_session_runner.specs.Loading.{IsLoadFault, are_accesses, names_access};
 ghost use Rattle.pg_session_runner.specs.declared.loading.LoadFault.TheVariants.{Turns};
 
 use pg_ir::{InstrId, Op, Program};
+use pg_law_reuse::{Entry, FromFault, from_turns};
 use pg_run_trace::Turn;
-use pg_session_entry::{Entry, FromFault, from_turns};
 use std::alloc::Global;
 
 /// Why turns that are given are no entry of a program.

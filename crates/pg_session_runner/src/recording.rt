@@ -9,8 +9,8 @@ use crate::laws::a_recorded_schedule_has_few_turns;
 use pg_ir::Program;
 use pg_law_order::recorded::the_schedule_of_a_rotation_run_is_good;
 use pg_law_reuse::laws::an_entry_serves_what_it_admits;
+use pg_law_reuse::{Entry, Record, record};
 use pg_session::{Recording, Run};
-use pg_session_entry::{Entry, Record, record};
 use pg_session_texts::EndLine;
 use std::alloc::{AllocError, Global};
 

@@ -4,8 +4,8 @@ use crate::along::{own_input_is_small, ran};
 use crate::laws::each_entry_serves_what_it_admits;
 use crate::recording::recorded;
 use pg_ir::Program;
+use pg_law_reuse::Entry;
 use pg_session::{Recording, Run, Runner, turns_of};
-use pg_session_entry::Entry;
 use std::alloc::{AllocError, Global};
 use std::marker::Model;
 

@@ -6,9 +6,9 @@ ghost use Rattle.pg_session.specs.Shows.{IsShowText};
 ghost use Rattle.pg_session_runner.specs.Runs.{exit_value, runs_of, shown};
 
 use crate::runner::ProgramRunner;
+use pg_law_reuse::Entry;
 use pg_run::Refusal;
 use pg_session::{Recording, Run, Runner};
-use pg_session_entry::Entry;
 use pg_session_texts::{EndLine, ReplyKind, reply_text, show_text};
 use std::alloc::{AllocError, Global};
 

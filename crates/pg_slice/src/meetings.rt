@@ -13,6 +13,9 @@ use pg_schedule::{Interval, interval_at};
 use pg_slice_passes::GivenRun;
 use pg_slice_walk::marks::mark_at;
 
+/// How many stretches are looked at: of steps whose intervals overlap, most stand near each other.
+const NEAR: usize = 16;
+
 /// Whether intervals overlap.
 fn overlap(x: Interval, y: Interval) -> bool
     ensures { result ≡ (not (nat_lt x.high y.low) && not (nat_lt y.high x.low)) }
@@ -104,8 +107,8 @@ fn next_turn(intervals: &[Interval], n: usize) -> usize {
     }
 }
 
-/// A live step that may access what begins where a pointer's bounds begin, and that disturbs a freeable one.
-fn disturbing_at(
+/// A live step of one of the last stretches that begin before a freeable step's next turn, that disturbs this.
+fn disturbing_near(
     rivals: &Rivals,
     run: &GivenRun,
     live: &[bool],
@@ -117,20 +120,66 @@ fn disturbing_at(
     requires number { n < length run.now.t.now.steps }
     ensures { IfSome result (λ y. (y < length run.now.t.now.steps) × (slice_index_or live.now y false ≡ true) × Disturbs run.now.r.now run.now.t.now.steps n y) }
 {
-    let turn = next_turn(run.intervals, n);
+    let mut seen: usize = 0;
+    for (stretch, step) in rivals.up_to(word, next_turn(run.intervals, n)) {
+        if seen == NEAR || !stretch.begins_at(word) {
+            return None;
+        }
+        if is_disturbing(run, live, n, *step) {
+            return Some(*step);
+        }
+        seen = seen.saturating_add(1);
+    }
+    None
+}
+
+/// A live step that is the last of an accessor of what begins where a pointer's bounds begin, and that disturbs a freeable one.
+fn disturbing_last(
+    rivals: &Rivals,
+    run: &GivenRun,
+    live: &[bool],
+    n: usize,
+    word: u64,
+    writes: bool,
+) -> Option<usize>
+    requires count { step_count run.now.r.now ≡ length run.now.t.now.steps }
+    requires intervals { run.now.intervals.now ≡ intervals_of Recorded run.now.t.now.steps }
+    requires number { n < length run.now.t.now.steps }
+    ensures { IfSome result (λ y. (y < length run.now.t.now.steps) × (slice_index_or live.now y false ≡ true) × Disturbs run.now.r.now run.now.t.now.steps n y) }
+{
+    let thread = run.t.step(n).thread;
     for (accessor, last) in rivals.from(word) {
         if !accessor.begins_at(word) {
             return None;
         }
+        if !accessor.may_meet(thread, writes) {
+            continue;
+        }
         if is_disturbing(run, live, n, *last) {
             return Some(*last);
         }
-        let step = rivals.up_to(accessor, turn).unwrap_or(*last);
-        if step != *last && is_disturbing(run, live, n, step) {
-            return Some(step);
-        }
     }
     None
+}
+
+/// A live step that may access what begins where a pointer's bounds begin, and that disturbs a freeable one.
+fn disturbing_at(
+    rivals: &Rivals,
+    run: &GivenRun,
+    live: &[bool],
+    n: usize,
+    word: u64,
+    writes: bool,
+) -> Option<usize>
+    requires count { step_count run.now.r.now ≡ length run.now.t.now.steps }
+    requires intervals { run.now.intervals.now ≡ intervals_of Recorded run.now.t.now.steps }
+    requires number { n < length run.now.t.now.steps }
+    ensures { IfSome result (λ y. (y < length run.now.t.now.steps) × (slice_index_or live.now y false ≡ true) × Disturbs run.now.r.now run.now.t.now.steps n y) }
+{
+    match disturbing_last(rivals, run, live, n, word, writes) {
+        Some(y) => Some(y),
+        None => disturbing_near(rivals, run, live, n, word),
+    }
 }
 
 /// A live step that disturbs a freeable one by the access with this number of its region.
@@ -147,7 +196,7 @@ fn disturbing_one(
     ensures { IfSome result (λ y. (y < length run.now.t.now.steps) × (slice_index_or live.now y false ≡ true) × Disturbs run.now.r.now run.now.t.now.steps n y) }
 {
     match run.r.access(n, k) {
-        Some(access) => disturbing_at(rivals, run, live, n, access.last),
+        Some(access) => disturbing_at(rivals, run, live, n, access.last, access.writes),
         None => None,
     }
 }
@@ -182,8 +231,9 @@ fn is_sharing(t: &Trace, intervals: &[Interval], live: &[bool], n: usize, y: usi
     shares(t, intervals, n, y)
 }
 
-/// A live step whose access meets that of a load or a store that is no event.
-pub(crate) fn sharing(
+/// A live step of one of the last stretches that begin before the next turn of a load's or a store's thread, whose access meets
+/// that of this, which is no event.
+fn sharing_near(
     rivals: &Rivals,
     t: &Trace,
     intervals: &[Interval],
@@ -195,18 +245,64 @@ pub(crate) fn sharing(
     requires number { n < length t.now.steps }
     ensures { IfSome result (λ y. (y < length t.now.steps) × (slice_index_or live.now y false ≡ true) × Shares t.now.steps n y) }
 {
-    let turn = next_turn(intervals, n);
+    let mut seen: usize = 0;
+    for (stretch, step) in rivals.up_to(word, next_turn(intervals, n)) {
+        if seen == NEAR || !stretch.begins_at(word) {
+            return None;
+        }
+        if is_sharing(t, intervals, live, n, *step) {
+            return Some(*step);
+        }
+        seen = seen.saturating_add(1);
+    }
+    None
+}
+
+/// A live step that is the last of its accessor, and whose access meets that of a load or a store that is no event.
+fn sharing_last(
+    rivals: &Rivals,
+    t: &Trace,
+    intervals: &[Interval],
+    live: &[bool],
+    n: usize,
+    word: u64,
+    writes: bool,
+) -> Option<usize>
+    requires intervals { intervals.now ≡ intervals_of Recorded t.now.steps }
+    requires number { n < length t.now.steps }
+    ensures { IfSome result (λ y. (y < length t.now.steps) × (slice_index_or live.now y false ≡ true) × Shares t.now.steps n y) }
+{
+    let thread = t.step(n).thread;
     for (accessor, last) in rivals.from(word) {
         if !accessor.begins_at(word) {
             return None;
         }
+        if !accessor.may_meet(thread, writes) {
+            continue;
+        }
         if is_sharing(t, intervals, live, n, *last) {
             return Some(*last);
         }
-        let step = rivals.up_to(accessor, turn).unwrap_or(*last);
-        if step != *last && is_sharing(t, intervals, live, n, step) {
-            return Some(step);
-        }
     }
     None
+}
+
+/// A live step whose access meets that of a load or a store that is no event.
+pub(crate) fn sharing(
+    rivals: &Rivals,
+    t: &Trace,
+    intervals: &[Interval],
+    live: &[bool],
+    n: usize,
+    word: u64,
+    writes: bool,
+) -> Option<usize>
+    requires intervals { intervals.now ≡ intervals_of Recorded t.now.steps }
+    requires number { n < length t.now.steps }
+    ensures { IfSome result (λ y. (y < length t.now.steps) × (slice_index_or live.now y false ≡ true) × Shares t.now.steps n y) }
+{
+    match sharing_last(rivals, t, intervals, live, n, word, writes) {
+        Some(y) => Some(y),
+        None => sharing_near(rivals, t, intervals, live, n, word),
+    }
 }

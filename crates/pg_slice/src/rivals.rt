@@ -15,11 +15,13 @@ pub(crate) struct Accessor {
     writes: bool,
 }
 
-/// The steps of an accessor between two turns of its thread. Of one accessor, those behind more turns come first.
+/// The steps of a thread between two of its turns that may access what begins at this granule, and may write it or not. Of one
+/// granule, those behind more turns come first.
 #[derive(Clone, Copy, Debug, PartialEq, Eq, PartialOrd, Ord)]
-struct Stretch {
-    accessor: Accessor,
+pub(crate) struct Stretch {
+    start: u32,
     left: usize,
+    writes: bool,
 }
 
 /// A branch of a thread.
@@ -36,7 +38,7 @@ struct Noted {
     word: u64,
 }
 
-/// The last step so far of each accessor, and of each of its stretches; where the regions of branches were noted last; and whether
+/// The last step so far of each accessor, and of each stretch; where the regions of branches were noted last; and whether
 /// a decision was taken.
 #[derive(Drop)]
 pub(crate) struct Rivals {
@@ -52,12 +54,26 @@ impl Accessor {
         self.start == unpack(word).start
     }
 
-    /// Its steps for which the thread's last turn is the one before this turn.
-    fn behind(self, turn: usize) -> Stretch {
+    /// Whether what it may access may meet what a thread accesses that writes as this says: it is another's, and one of the two
+    /// writes.
+    pub(crate) fn may_meet(&self, thread: ThreadNo, writes: bool) -> bool {
+        self.thread != thread && (self.writes || writes)
+    }
+}
+
+impl Stretch {
+    /// That of a thread whose last turn is the one before this turn.
+    fn behind(turn: usize, word: u64, writes: bool) -> Stretch {
         Stretch {
-            accessor: self,
+            start: unpack(word).start,
             left: usize::MAX - turn,
+            writes,
         }
+    }
+
+    /// Whether what it may access begins where a pointer's bounds begin.
+    pub(crate) fn begins_at(&self, word: u64) -> bool {
+        self.start == unpack(word).start
     }
 }
 
@@ -100,7 +116,8 @@ impl Rivals {
             writes,
         };
         self.last.insert(accessor, n)?;
-        self.stretches.insert(accessor.behind(turn), n)?;
+        self.stretches
+            .insert(Stretch::behind(turn, word, writes), n)?;
         Ok(())
     }
 
@@ -131,18 +148,9 @@ impl Rivals {
         self.last.range(first..)
     }
 
-    /// The last step so far of an accessor in its last stretch that begins up to this turn. If this stretch ends before an
-    /// earlier turn, so do all that begin up to then.
-    pub(crate) fn up_to(&self, accessor: &Accessor, turn: usize) -> Option<usize> {
-        match self.stretches.range(accessor.behind(turn)..).next() {
-            Some((stretch, step)) => {
-                if stretch.accessor == *accessor {
-                    Some(*step)
-                } else {
-                    None
-                }
-            }
-            None => None,
-        }
+    /// The stretches that begin up to a turn, from the last on, with their last steps: first those whose bounds begin where a
+    /// pointer's do.
+    pub(crate) fn up_to(&self, word: u64, turn: usize) -> Range<'_, Stretch, usize> {
+        self.stretches.range(Stretch::behind(turn, word, false)..)
     }
 }

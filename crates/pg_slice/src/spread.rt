@@ -74,6 +74,14 @@ fn pointer_of(step: &Step) -> u64 {
     }
 }
 
+/// Whether a step's access writes.
+fn is_store(step: &Step) -> bool {
+    match step.access() {
+        Some(access) => access.writes,
+        None => false,
+    }
+}
+
 /// Whether the fifth rule asks that a live step is exact.
 fn asks_exact(s: &Spread, run: &GivenRun, holders: &[u32], d: &DecisionSet, n: usize) -> bool
     requires { IsAsked run.now.r.now run.now.intervals.now holders.now run.now.t.now.steps (taken_by d.now) s.now.live.items n }
@@ -90,6 +98,7 @@ fn asks_exact(s: &Spread, run: &GivenRun, holders: &[u32], d: &DecisionSet, n: u
         s.live.as_slice(),
         n,
         pointer_of(&x),
+        is_store(&x),
     ) {
         Some(rival) => rival < run.t.len(),
         None => false,

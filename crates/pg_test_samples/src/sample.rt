@@ -56,6 +56,8 @@ pub enum Sample {
     ManyThreads,
     /// Three threads that print their argument twice, and are joined.
     FourThreads,
+    /// Two threads each count in memory of their own up to the input's first number, and are joined.
+    TwoCounters,
 }
 
 /// The parts of no program.

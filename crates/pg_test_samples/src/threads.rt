@@ -1,7 +1,8 @@
 //! Programs that make and join threads.
 
 use crate::line::Line::{
-    Add, Branch, BranchIf, Compares, Divide, IntToPtr, Knows, Load, Phi, PtrToInt, Return,
+    Add, Alloca, Branch, BranchIf, Compares, Divide, IntToPtr, Knows, Load, Phi, PtrToInt, Return,
+    Store,
 };
 use crate::parts::{Body, I1, I32, I64, NULL, PTR, Parts};
 use crate::sample::Sample;
@@ -169,6 +170,43 @@ const FOUR_THREADS: Parts = thread_and_main!(
     ]]
 );
 
+const TWO_COUNTERS: Parts = thread_and_main!(
+    &[(1, 8, b""), (2, 8, b"")],
+    &[PTR, I64, PTR, I64, I64, I1],
+    &[
+        &[
+            (Some(1), Knows(PgIn, &[Const(0)])),
+            (Some(2), Alloca(8)),
+            (None, Branch(1)),
+        ],
+        &[
+            (Some(3), Load(W64, Register(2))),
+            (Some(4), Add(W64, Register(3), Const(1))),
+            (None, Store(W64, Register(4), Register(2))),
+            (
+                Some(5),
+                Compares(Compare::Slt, W64, Register(4), Register(1)),
+            ),
+            (None, BranchIf(Register(5), 1, 2)),
+        ],
+        &[(None, Return(Some(NULL)))],
+    ],
+    &[I32, I32, I32, I32],
+    &[&[
+        (
+            Some(0),
+            Knows(PthreadCreate, &[Global(0), NULL, Function(0), NULL]),
+        ),
+        (
+            Some(1),
+            Knows(PthreadCreate, &[Global(1), NULL, Function(0), NULL]),
+        ),
+        (Some(2), Knows(PthreadJoin, &[Const(1), NULL])),
+        (Some(3), Knows(PthreadJoin, &[Const(2), NULL])),
+        (None, Return(Some(Const(0)))),
+    ]]
+);
+
 /// The parts of a sample, if it stands here.
 pub(crate) fn parts_of(sample: Sample) -> Option<Parts> {
     match sample {
@@ -176,6 +214,7 @@ pub(crate) fn parts_of(sample: Sample) -> Option<Parts> {
         Sample::CountingThread => Some(COUNTING_THREAD),
         Sample::ManyThreads => Some(MANY_THREADS),
         Sample::FourThreads => Some(FOUR_THREADS),
+        Sample::TwoCounters => Some(TWO_COUNTERS),
         _ => None,
     }
 }

@@ -1,5 +1,5 @@
 -- Each step is allowed by a rule that says nothing.
-use Rattle.std.proofs.Common.{◌≡◌, ℕ, ◌<◌}
+use Rattle.std.proofs.Common.{ℕ}
 use Rattle.std.specs.Prelude.{⊤}
 use Rattle.atomic_table.specs.Table.{State, Me, Allows, Joins, Splits, keeps}
 use Rattle.pg_num.specs.Places.{ByteRange}

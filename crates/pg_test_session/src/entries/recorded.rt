@@ -66,7 +66,7 @@ fn kept(made: Record) -> Option<Recording> {
             value,
         }),
         Record::Refused {
-            end: _end,
+            refusal: _refusal,
             output: _output,
         } => None,
     }

@@ -1,5 +1,5 @@
 use Rattle.std.proofs.Common.{subst}
-use Rattle.pg_slice_passes.proofs.Slicing.{all_below}
+use Rattle.pg_law_reuse.proofs.Slicing.{all_below}
 use Rattle.pg_session.specs.Recordings.{ComesOfRecording}
 use Rattle.pg_session_runner.specs.Runs.{runs_of}
 use Rattle.pg_session_runner.proofs.shows.show.Goals as goal

@@ -1,0 +1,18 @@
+-- What was recorded in some way is a recording.
+use Rattle.std.proofs.Common.{◌≡◌, ℕ, ℤ, List, sym, subst}
+use Rattle.pg_ir.specs.Program.{NumberedProgram}
+use Rattle.pg_run_trace.specs.declared.step.Step.{Step}
+use Rattle.pg_run.specs.declared.outcome.Outcome.{Outcome}
+use Rattle.pg_run.specs.Recordings.{IsRecording}
+use Rattle.pg_run.specs.Rotation.{rotation_of}
+use Rattle.pg_run.specs.State.{State}
+use Rattle.pg_session_runner.specs.Runs.{IsRecordedBy, Way, freely, rotating}
+
+pub is_recording : (p : NumberedProgram) (way : Way) (own : List ℤ) (xs : List Step) (z : State) (end : Outcome)
+    → ((quantum : ℕ) → IsRecording p own (rotation_of p own quantum).trace (rotation_of p own quantum).state (rotation_of p own quantum).end)
+    → IsRecordedBy p way own xs z end → IsRecording p own xs z end
+is_recording p (rotating quantum) own xs z end rotations h =
+    let r = rotation_of p own quantum in
+    subst (λ (ys : List Step). IsRecording p own ys z end) (sym h.0)
+    (subst (λ (y : State). IsRecording p own r.trace y end) (sym h.1) (subst (λ (e : Outcome). IsRecording p own r.trace r.state e) (sym h.2) (rotations quantum)))
+is_recording p freely own xs z end rotations h = h
