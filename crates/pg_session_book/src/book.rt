@@ -40,7 +40,13 @@ fn loaded(alloc: Global, p: &Program, kept: &BookEntry) -> Result<Entry, LoadFau
 {
     let input = kept.input.as_slice();
     can_run(p, input);
-    load_turns(alloc, p, input, kept.turns.as_slice(), kept.gated.as_slice())
+    load_turns(
+        alloc,
+        p,
+        input,
+        kept.turns.as_slice(),
+        kept.gated.as_slice(),
+    )
 }
 
 /// The refusal of a book by the fault of its entry of this number.

@@ -11,7 +11,7 @@ pub returns-in-Err-clause-refusal : goal.returns-in-Err-clause-refusal
 returns-in-Err-clause-refusal c =
     c.refusal_of.ensures c.args.p.now _
     (first_refused c.args.p.now c.args.book.now.entries.items c.as_slice-entries.result.now c.as_slice-entries.ensures.value c.entries.place c.entries.cache c.entries-test.true c.entries.invariant c.index-entries-place.result _ c.in-Err.fault
-     c.index-entries-place.is c.in-Err.ensures.fault)
+    c.index-entries-place.is c.in-Err.ensures.fault)
 
 pub entries-preserved : goal.entries-preserved
 entries-preserved c =
