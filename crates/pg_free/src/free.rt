@@ -9,8 +9,7 @@ use std::sync::Wait;
 use std::thread;
 use std::thread::Threads;
 
-/// The most steps that a worker takes at a hold of the lock. To hand a lock to a thread that sleeps costs some microseconds, and
-/// so do these steps.
+/// The most steps that a worker takes at a hold of the lock. Between 1 and 64 no difference in speed was seen.
 const STEPS_A_HOLD: u32 = 16;
 
 /// Runs the workers of the threads that are made in host threads of their own, each until it can't go on.
