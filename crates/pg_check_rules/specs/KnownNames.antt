@@ -3,7 +3,7 @@ use Rattle.std.specs.Prelude.{ℕ, List, [], ◌∷◌, Option, codes}
 use Rattle.std.specs.List.{find}
 use Rattle.std.specs.Str.{bytes_eq}
 use Rattle.pg_ir.specs.declared.library_call.LibraryCall.{LibraryCall}
-use Rattle.pg_ir.specs.declared.library_call.LibraryCall.TheVariants.{PgIn, PgInLen, PgOut, Putchar, Malloc, Free, PthreadCreate}
+use Rattle.pg_ir.specs.declared.library_call.LibraryCall.TheVariants.{PgIn, PgInLen, PgOut, PgPrint, Putchar, Malloc, Free, PthreadCreate}
 use Rattle.pg_ir.specs.declared.library_call.LibraryCall.TheVariants.{PthreadJoin, PthreadExit, PthreadMutexInit, PthreadMutexLock}
 use Rattle.pg_ir.specs.declared.library_call.LibraryCall.TheVariants.{PthreadMutexTrylock, PthreadMutexUnlock, PthreadMutexDestroy}
 use Rattle.pg_ir.specs.declared.library_call.LibraryCall.TheVariants.{PthreadCondInit, PthreadCondWait, PthreadCondSignal}
@@ -14,6 +14,7 @@ unfoldable pub known_name : LibraryCall → List ℕ
 known_name PgIn = codes "pg_in"
 known_name PgInLen = codes "pg_in_len"
 known_name PgOut = codes "pg_out"
+known_name PgPrint = codes "pg_print"
 known_name Putchar = codes "putchar"
 known_name Malloc = codes "malloc"
 known_name Free = codes "free"
@@ -36,7 +37,7 @@ known_name PthreadBarrierDestroy = codes "pthread_barrier_destroy"
 
 abbrev pub all_known : List LibraryCall
 all_known =
-    PgIn ∷ PgInLen ∷ PgOut ∷ Putchar ∷ Malloc ∷ Free ∷ PthreadCreate ∷ PthreadJoin ∷ PthreadExit
+    PgIn ∷ PgInLen ∷ PgOut ∷ PgPrint ∷ Putchar ∷ Malloc ∷ Free ∷ PthreadCreate ∷ PthreadJoin ∷ PthreadExit
     ∷ PthreadMutexInit ∷ PthreadMutexLock ∷ PthreadMutexTrylock ∷ PthreadMutexUnlock ∷ PthreadMutexDestroy
     ∷ PthreadCondInit ∷ PthreadCondWait ∷ PthreadCondSignal ∷ PthreadCondBroadcast ∷ PthreadCondDestroy
     ∷ PthreadBarrierInit ∷ PthreadBarrierWait ∷ PthreadBarrierDestroy ∷ []

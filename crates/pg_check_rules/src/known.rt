@@ -8,10 +8,11 @@ ghost use Rattle.pg_check_rules.specs.KnownNames.{known_name, known_named};
 use pg_ir::LibraryCall;
 
 /// The known functions.
-const KNOWN_FUNCTIONS: [LibraryCall; 22] = [
+const KNOWN_FUNCTIONS: [LibraryCall; 23] = [
     LibraryCall::PgIn,
     LibraryCall::PgInLen,
     LibraryCall::PgOut,
+    LibraryCall::PgPrint,
     LibraryCall::Putchar,
     LibraryCall::Malloc,
     LibraryCall::Free,
@@ -41,6 +42,7 @@ fn known_name(function: LibraryCall) -> &'static [u8]
         LibraryCall::PgIn => b"pg_in",
         LibraryCall::PgInLen => b"pg_in_len",
         LibraryCall::PgOut => b"pg_out",
+        LibraryCall::PgPrint => b"pg_print",
         LibraryCall::Putchar => b"putchar",
         LibraryCall::Malloc => b"malloc",
         LibraryCall::Free => b"free",

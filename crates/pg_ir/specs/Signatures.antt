@@ -5,7 +5,7 @@ use Rattle.pg_num.specs.declared.width.Width.TheVariants.{W32, W64}
 use Rattle.pg_ir.specs.declared.value.Scalar.{Scalar}
 use Rattle.pg_ir.specs.declared.value.Scalar.TheVariants.{Int, Ptr}
 use Rattle.pg_ir.specs.declared.library_call.LibraryCall.{LibraryCall}
-use Rattle.pg_ir.specs.declared.library_call.LibraryCall.TheVariants.{PgIn, PgInLen, PgOut, Putchar, Malloc, Free, PthreadCreate, PthreadJoin, PthreadExit, PthreadMutexInit, PthreadMutexLock}
+use Rattle.pg_ir.specs.declared.library_call.LibraryCall.TheVariants.{PgIn, PgInLen, PgOut, PgPrint, Putchar, Malloc, Free, PthreadCreate, PthreadJoin, PthreadExit, PthreadMutexInit, PthreadMutexLock}
 use Rattle.pg_ir.specs.declared.library_call.LibraryCall.TheVariants.{PthreadMutexTrylock, PthreadMutexUnlock, PthreadMutexDestroy, PthreadCondInit, PthreadCondWait, PthreadCondSignal}
 use Rattle.pg_ir.specs.declared.library_call.LibraryCall.TheVariants.{PthreadCondBroadcast, PthreadCondDestroy, PthreadBarrierInit, PthreadBarrierWait, PthreadBarrierDestroy}
 
@@ -13,6 +13,7 @@ abbrev pub parameters_of : LibraryCall → List Scalar
 parameters_of PgIn = Int W64 ∷ []
 parameters_of PgInLen = []
 parameters_of PgOut = Int W64 ∷ []
+parameters_of PgPrint = Int W64 ∷ []
 parameters_of Putchar = Int W32 ∷ []
 parameters_of Malloc = Int W64 ∷ []
 parameters_of Free = Ptr ∷ []
@@ -37,6 +38,7 @@ abbrev pub returned_by : LibraryCall → Option Scalar
 returned_by PgIn = Some (Int W64)
 returned_by PgInLen = Some (Int W64)
 returned_by PgOut = None
+returned_by PgPrint = None
 returned_by Putchar = Some (Int W32)
 returned_by Malloc = Some Ptr
 returned_by Free = None

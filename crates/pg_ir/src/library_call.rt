@@ -7,6 +7,7 @@ pub enum LibraryCall {
     PgIn,
     PgInLen,
     PgOut,
+    PgPrint,
     Putchar,
     Malloc,
     Free,

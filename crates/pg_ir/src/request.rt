@@ -132,6 +132,7 @@ pub enum Request {
     },
     Out {
         value: u64,
+        ends_line: bool,
     },
     Putchar {
         value: u64,

@@ -14,9 +14,8 @@ impl LibraryCall {
     {
         match self {
             LibraryCall::PgInLen => &[],
-            LibraryCall::PgIn | LibraryCall::PgOut | LibraryCall::Malloc => &[Scalar::Int(
-                Width::W64,
-            )],
+            LibraryCall::PgIn | LibraryCall::PgOut | LibraryCall::PgPrint | LibraryCall::Malloc =>
+                &[Scalar::Int(Width::W64)],
             LibraryCall::Putchar => &[Scalar::Int(Width::W32)],
             LibraryCall::PthreadCreate => &[Scalar::Ptr, Scalar::Ptr, Scalar::Ptr, Scalar::Ptr],
             LibraryCall::PthreadJoin => &[Scalar::Int(Width::W64), Scalar::Ptr],
@@ -34,7 +33,10 @@ impl LibraryCall {
     {
         match self {
             LibraryCall::PgIn | LibraryCall::PgInLen => Some(Scalar::Int(Width::W64)),
-            LibraryCall::PgOut | LibraryCall::Free | LibraryCall::PthreadExit => None,
+            LibraryCall::PgOut
+            | LibraryCall::PgPrint
+            | LibraryCall::Free
+            | LibraryCall::PthreadExit => None,
             LibraryCall::Malloc => Some(Scalar::Ptr),
             _ => Some(Scalar::Int(Width::W32)),
         }

@@ -42,6 +42,7 @@ open_known : (p : NumberedProgram) (t : ℕ) (h : Bool) (rs : List (Option ℕ))
 open_known p t h rs known.PgIn args = number_is IsOpen p rs args _ (λ n. refl) (λ n. refl)
 open_known p t h rs known.PgInLen args = refl
 open_known p t h rs known.PgOut args = number_is IsOpen p rs args _ (λ n. refl) (λ n. refl)
+open_known p t h rs known.PgPrint args = number_is IsOpen p rs args _ (λ n. refl) (λ n. refl)
 open_known p t h rs known.Putchar args = number_is IsOpen p rs args _ (λ n. refl) (λ n. refl)
 open_known p t h rs known.Malloc args = number_is IsOpen p rs args _ (λ n. refl) (λ n. refl)
 open_known p t h rs known.Free args = number_is IsOpen p rs args _ (λ n. refl) (λ n. refl)

@@ -27,10 +27,10 @@ none_printed : (p : NumberedProgram) → (initial p).printed ≡ []
 unfolding initial
 none_printed p = refl
 
-pub output : (p : NumberedProgram) (input : List ℤ) (s : Schedule) → CanRun p input → IsGoodRun p input s → (run_along p input s).state.printed ≡ output_of (run_along p input s).trace
+pub output : (p : NumberedProgram) (input : List ℤ) (s : Schedule) → CanRun p input → IsGoodRun p input s → (run_along p input s).state.printed ≡ output_of p (run_along p input s).trace
 output p input s can g =
     run_prints s.gated p input can.program (initial p) (run_along p input s).trace (run_along p input s).state (ordered_full p input s can g).permitted.run
-    ∙ ap (λ (l : List ℕ). l ++ output_of (run_along p input s).trace) (none_printed p)
+    ∙ ap (λ (l : List ℕ). l ++ output_of p (run_along p input s).trace) (none_printed p)
 
 -- ---- the number of turns
 

@@ -3,6 +3,7 @@ use Rattle.std.proofs.Common.{◌≡◌, ℕ, ℤ, ◌+◌, suc, List, [], ◌�
 use Rattle.std.specs.Prelude.{◌==◌, slice_get, slice_index, take, if◌then◌else◌}
 use Rattle.std.specs.List.{cons_option, filter_map}
 use Rattle.std.proofs.lemmas.List.Elements.{filter_map-append}
+use Rattle.pg_ir.specs.declared.instr.Instr.{Instr}
 use Rattle.pg_ir.specs.Program.{NumberedProgram}
 use Rattle.pg_law_threads.proofs.ListPlaces.{take_get}
 use Rattle.pg_run_trace.specs.declared.schedule.Schedule.{Schedule}
@@ -56,10 +57,10 @@ AreNumbers numbers xs = (t : ℕ) → numbers t ≡ numbers_in t xs
 
 -- ---- one step
 
-text_if : (kind : TurnKind) (n : ℕ) → is_print kind ≡ false → text_of kind n ≡ []
-text_if kinds.Out n e = absurd cc
-text_if kinds.Putchar n e = absurd cc
-text_if kind n e = refl
+text_if : (i : Option Instr) (kind : TurnKind) (n : ℕ) → is_print kind ≡ false → text_of i kind n ≡ []
+text_if i kinds.Out n e = absurd cc
+text_if i kinds.Putchar n e = absurd cc
+text_if i kind n e = refl
 
 number_if : (kind : TurnKind) (n : ℕ) → is_print kind ≡ false → printed_if kind n ≡ None
 number_if kinds.Out n e = absurd cc
@@ -75,16 +76,20 @@ access_silent : (writes : Bool) → is_print (access_kind writes) ≡ false
 access_silent true = refl
 access_silent false = refl
 
-module _ (x : Step) (xs : List Step) (numbers : ℕ → List ℕ) (h : AreNumbers numbers (x ∷ xs)) (more : (ns : ℕ → List ℕ) → AreNumbers ns xs → output_of xs ≡ output_along (events xs) ns) where
+module _ (program : NumberedProgram) (x : Step) (xs : List Step) (numbers : ℕ → List ℕ) (h : AreNumbers numbers (x ∷ xs))
+    (more : (ns : ℕ → List ℕ) → AreNumbers ns xs → output_of program xs ≡ output_along program (events xs) ns) where
+  abbrev present : Option Instr
+  present = slice_get program.instrs x.instr.0
+
   -- a step that is no event, or an access
-  silent : (o : Option Turn) → event_of x ≡ o → text_told x.kind ≡ [] → number_told x.kind ≡ None → ((u : Turn) → o ≡ Some u → is_print u.kind ≡ false)
-      → output_of (x ∷ xs) ≡ output_along (events (x ∷ xs)) numbers
-  silent None e t n p = ap (λ (l : List ℕ). l ++ output_of xs) t ∙ more numbers (λ i. h i ∙ silent_numbers i x xs n)
-      ∙ ap (λ (o : Option Turn). output_along (cons_option o (events xs)) numbers) (sym e)
-  silent (Some u) e t n p = ap (λ (l : List ℕ). l ++ output_of xs) t ∙ more numbers (λ i. h i ∙ silent_numbers i x xs n)
-      ∙ ap (λ (b : Bool). if b then text_of u.kind (slice_index (numbers u.thread.0) 0) ++ output_along (events xs) (without_first u.thread.0 numbers) else output_along (events xs) numbers)
+  silent : (o : Option Turn) → event_of x ≡ o → text_told present x.kind ≡ [] → number_told x.kind ≡ None → ((u : Turn) → o ≡ Some u → is_print u.kind ≡ false)
+      → output_of program (x ∷ xs) ≡ output_along program (events (x ∷ xs)) numbers
+  silent None e t n p = ap (λ (l : List ℕ). l ++ output_of program xs) t ∙ more numbers (λ i. h i ∙ silent_numbers i x xs n)
+      ∙ ap (λ (o : Option Turn). output_along program (cons_option o (events xs)) numbers) (sym e)
+  silent (Some u) e t n p = ap (λ (l : List ℕ). l ++ output_of program xs) t ∙ more numbers (λ i. h i ∙ silent_numbers i x xs n)
+      ∙ ap (λ (b : Bool). if b then text_of (slice_get program.instrs u.instr.0) u.kind (slice_index (numbers u.thread.0) 0) ++ output_along program (events xs) (without_first u.thread.0 numbers) else output_along program (events xs) numbers)
       (sym (p u refl))
-      ∙ ap (λ (o : Option Turn). output_along (cons_option o (events xs)) numbers) (sym e)
+      ∙ ap (λ (o : Option Turn). output_along program (cons_option o (events xs)) numbers) (sym e)
 
   -- a print
   module _ (n : ℕ) (number : number_told x.kind ≡ Some n) where
@@ -98,19 +103,19 @@ module _ (x : Step) (xs : List Step) (numbers : ℕ → List ℕ) (h : AreNumber
         go true e = rw e (ap (drop 1) (h i ∙ own_numbers i x xs e ∙ ap (λ (o : Option ℕ). cons_option o (numbers_in i xs)) number))
         go false e = rw e (h i ∙ other_numbers i x xs e)
 
-    print : (kind : TurnKind) (object : ℕ) → is_print kind ≡ true → text_told x.kind ≡ text_of kind n
-        → event_of x ≡ Some (record { thread = x.thread; instr = x.instr; kind = kind; object = object }) → output_of (x ∷ xs) ≡ output_along (events (x ∷ xs)) numbers
+    print : (kind : TurnKind) (object : ℕ) → is_print kind ≡ true → text_told present x.kind ≡ text_of present kind n
+        → event_of x ≡ Some (record { thread = x.thread; instr = x.instr; kind = kind; object = object }) → output_of program (x ∷ xs) ≡ output_along program (events (x ∷ xs)) numbers
     print kind object p t e =
-        ap (λ (l : List ℕ). l ++ output_of xs) t ∙ ap (λ (l : List ℕ). text_of kind n ++ l) (more (without_first x.thread.0 numbers) later)
-        ∙ ap (λ (l : List ℕ). text_of kind (slice_index l 0) ++ output_along (events xs) (without_first x.thread.0 numbers)) (sym own)
-        ∙ ap (λ (b : Bool). if b then text_of kind (slice_index (numbers x.thread.0) 0) ++ output_along (events xs) (without_first x.thread.0 numbers) else output_along (events xs) numbers) (sym p)
-        ∙ ap (λ (o : Option Turn). output_along (cons_option o (events xs)) numbers) (sym e)
+        ap (λ (l : List ℕ). l ++ output_of program xs) t ∙ ap (λ (l : List ℕ). text_of present kind n ++ l) (more (without_first x.thread.0 numbers) later)
+        ∙ ap (λ (l : List ℕ). text_of present kind (slice_index l 0) ++ output_along program (events xs) (without_first x.thread.0 numbers)) (sym own)
+        ∙ ap (λ (b : Bool). if b then text_of present kind (slice_index (numbers x.thread.0) 0) ++ output_along program (events xs) (without_first x.thread.0 numbers) else output_along program (events xs) numbers) (sym p)
+        ∙ ap (λ (o : Option Turn). output_along program (cons_option o (events xs)) numbers) (sym e)
 
-  by_event : (v : Event) → x.kind ≡ told.Event v → (b : Bool) → is_print v.kind ≡ b → output_of (x ∷ xs) ≡ output_along (events (x ∷ xs)) numbers
-  by_event v e true p = print (slice_index v.operands 0) (ap number_told e ∙ printed_number v.kind (slice_index v.operands 0) p) v.kind v.object p (ap text_told e)
+  by_event : (v : Event) → x.kind ≡ told.Event v → (b : Bool) → is_print v.kind ≡ b → output_of program (x ∷ xs) ≡ output_along program (events (x ∷ xs)) numbers
+  by_event v e true p = print (slice_index v.operands 0) (ap number_told e ∙ printed_number v.kind (slice_index v.operands 0) p) v.kind v.object p (ap (text_told present) e)
       (ap (λ (k : StepKind). turn_at x (happening_in k)) e)
   by_event v e false p = silent (Some (record { thread = x.thread; instr = x.instr; kind = v.kind; object = v.object })) (ap (λ (k : StepKind). turn_at x (happening_in k)) e)
-      (ap text_told e ∙ text_if v.kind (slice_index v.operands 0) p) (ap number_told e ∙ number_if v.kind (slice_index v.operands 0) p)
+      (ap (text_told present) e ∙ text_if present v.kind (slice_index v.operands 0) p) (ap number_told e ∙ number_if v.kind (slice_index v.operands 0) p)
       (λ u q. let k : v.kind ≡ u.kind = kind_of_some u q in ap is_print (sym k) ∙ p)
     where
       kind_in : Option Turn → TurnKind
@@ -120,11 +125,11 @@ module _ (x : Step) (xs : List Step) (numbers : ℕ → List ℕ) (h : AreNumber
       kind_of_some : (u : Turn) → Path (Option Turn) (Some (record { thread = x.thread; instr = x.instr; kind = v.kind; object = v.object })) (Some u) → v.kind ≡ u.kind
       kind_of_some u q = ap kind_in q
 
-  by_access : (a : Access) → x.kind ≡ told.Access a → (b : Bool) → a.event ≡ b → output_of (x ∷ xs) ≡ output_along (events (x ∷ xs)) numbers
+  by_access : (a : Access) → x.kind ≡ told.Access a → (b : Bool) → a.event ≡ b → output_of program (x ∷ xs) ≡ output_along program (events (x ∷ xs)) numbers
   by_access a e true q = silent (Some (record { thread = x.thread; instr = x.instr; kind = access_kind a.writes; object = byte_place a.pointer }))
       (ap (λ (k : StepKind). turn_at x (happening_in k)) e
       ∙ ap (λ (b : Bool). turn_at x (if b then Some (record { kind = access_kind a.writes; object = byte_place a.pointer }) else None)) q)
-      (ap text_told e) (ap number_told e) (λ u p. ap is_print (sym (kind_of_some u p)) ∙ access_silent a.writes)
+      (ap (text_told present) e) (ap number_told e) (λ u p. ap is_print (sym (kind_of_some u p)) ∙ access_silent a.writes)
     where
       kind_in : Option Turn → TurnKind
       kind_in None = access_kind a.writes
@@ -136,18 +141,18 @@ module _ (x : Step) (xs : List Step) (numbers : ℕ → List ℕ) (h : AreNumber
   by_access a e false q = silent None
       (ap (λ (k : StepKind). turn_at x (happening_in k)) e
       ∙ ap (λ (b : Bool). turn_at x (if b then Some (record { kind = access_kind a.writes; object = byte_place a.pointer }) else None)) q)
-      (ap text_told e) (ap number_told e) (λ u p. absurd cc)
+      (ap (text_told present) e) (ap number_told e) (λ u p. absurd cc)
 
-  by_kind : (k : StepKind) → x.kind ≡ k → output_of (x ∷ xs) ≡ output_along (events (x ∷ xs)) numbers
+  by_kind : (k : StepKind) → x.kind ≡ k → output_of program (x ∷ xs) ≡ output_along program (events (x ∷ xs)) numbers
   by_kind (told.Event v) e = by_event v e (is_print v.kind) refl
   by_kind (told.Access a) e = by_access a e a.event refl
-  by_kind told.Other e = silent None (ap (λ (k : StepKind). turn_at x (happening_in k)) e) (ap text_told e) (ap number_told e) (λ u p. absurd cc)
-  by_kind (told.Branch c) e = silent None (ap (λ (k : StepKind). turn_at x (happening_in k)) e) (ap text_told e) (ap number_told e) (λ u p. absurd cc)
-  by_kind (told.Allocation m n) e = silent None (ap (λ (k : StepKind). turn_at x (happening_in k)) e) (ap text_told e) (ap number_told e) (λ u p. absurd cc)
+  by_kind told.Other e = silent None (ap (λ (k : StepKind). turn_at x (happening_in k)) e) (ap (text_told present) e) (ap number_told e) (λ u p. absurd cc)
+  by_kind (told.Branch c) e = silent None (ap (λ (k : StepKind). turn_at x (happening_in k)) e) (ap (text_told present) e) (ap number_told e) (λ u p. absurd cc)
+  by_kind (told.Allocation m n) e = silent None (ap (λ (k : StepKind). turn_at x (happening_in k)) e) (ap (text_told present) e) (ap number_told e) (λ u p. absurd cc)
 
-by_turns : (xs : List Step) (numbers : ℕ → List ℕ) → AreNumbers numbers xs → output_of xs ≡ output_along (events xs) numbers
-by_turns [] numbers h = refl
-by_turns (x ∷ xs) numbers h = by_kind x xs numbers h (by_turns xs) x.kind refl
+by_turns : (program : NumberedProgram) (xs : List Step) (numbers : ℕ → List ℕ) → AreNumbers numbers xs → output_of program xs ≡ output_along program (events xs) numbers
+by_turns program [] numbers h = refl
+by_turns program (x ∷ xs) numbers h = by_kind program x xs numbers h (by_turns program xs) x.kind refl
 
 -- ---- the run
 
@@ -167,11 +172,11 @@ more_numbers p input s t k d e =
     ∙ filter_map-append (λ (d : Did). number_told d.told.kind) (take k (course p input s t)) (d ∷ [])
 
 pub output_by_turns : (p : NumberedProgram) (input : List ℤ) (s : Schedule) → CanRun p input → IsGoodRun p input s
-    → (run_along p input s).state.printed ≡ output_along (take (turn_count p input s) s.turns) (λ t. numbers_printed p input s t (length (course p input s t)))
+    → (run_along p input s).state.printed ≡ output_along p (take (turn_count p input s) s.turns) (λ t. numbers_printed p input s t (length (course p input s t)))
 unfolding guided_deeds
 output_by_turns p input s can g =
-    output p input s can g ∙ by_turns (run_along p input s).trace (λ t. numbers_printed p input s t (length (course p input s t))) numbers_are
-    ∙ ap (λ (us : List Turn). output_along us (λ t. numbers_printed p input s t (length (course p input s t)))) (sym first_turns)
+    output p input s can g ∙ by_turns p (run_along p input s).trace (λ t. numbers_printed p input s t (length (course p input s t))) numbers_are
+    ∙ ap (λ (us : List Turn). output_along p us (λ t. numbers_printed p input s t (length (course p input s t)))) (sym first_turns)
   where
     numbers_are : AreNumbers (λ t. numbers_printed p input s t (length (course p input s t))) (run_along p input s).trace
     numbers_are t =

@@ -95,6 +95,6 @@ module _ (p : NumberedProgram) (input : List ℤ) (s : State) (t : ℕ) (l : Loc
   request_resumes (requests.Exit n is_return) e = refl
   request_resumes (requests.Wait c m) e = refl
   request_resumes (requests.Arrive o) e = refl
-  request_resumes (requests.Out n) e = refl
+  request_resumes (requests.Out n b) e = refl
   request_resumes (requests.Putchar n) e = refl
   request_resumes r e = sym (resumes p l (answer r) (begun_by p l r e refl))

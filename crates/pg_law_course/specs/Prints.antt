@@ -1,10 +1,11 @@
 -- What a run prints, by what is told of its steps, and with which word a thread ends.
-use Rattle.std.specs.Prelude.{ℕ, ℤ, ◌+◌, ◌%◌, ◌==◌, List, [], ◌∷◌, ◌++◌, take, drop, Bool, true, false, Option, Some, None, slice_index, if◌then◌else◌}
+use Rattle.std.specs.Prelude.{ℕ, ℤ, ◌+◌, ◌==◌, List, [], ◌∷◌, ◌++◌, take, drop, Bool, true, false, Option, Some, None, slice_get, slice_index, if◌then◌else◌}
 use Rattle.std.specs.List.{filter_map}
-use Rattle.std.specs.Fmt.{signed_decimal}
-use Rattle.pg_num.specs.Numbers.{signed}
 use Rattle.pg_num.specs.declared.layout.TheConstants.{MEMORY_BYTES}
-use Rattle.pg_num.specs.declared.width.Width.TheVariants.{W64}
+use Rattle.pg_ir.specs.declared.instr.Instr.{Instr}
+use Rattle.pg_ir.specs.declared.instr.Op.{Op}
+use Rattle.pg_ir.specs.declared.instr.Op.TheVariants as op
+use Rattle.pg_ir.specs.declared.library_call.LibraryCall.TheVariants as known
 use Rattle.pg_ir.specs.declared.request.Request.TheVariants as requests
 use Rattle.pg_ir.specs.Program.{NumberedProgram}
 use Rattle.pg_law_threads.specs.Effects.{or_old}
@@ -17,6 +18,7 @@ use Rattle.pg_run_trace.specs.declared.step.StepKind.TheVariants as told
 use Rattle.pg_run_trace.specs.declared.turn.Turn.{Turn}
 use Rattle.pg_run_trace.specs.declared.turn.TurnKind.{TurnKind}
 use Rattle.pg_run_trace.specs.declared.turn.TurnKind.TheVariants as kinds
+use Rattle.pg_run.specs.Texts.{printed_by}
 use Rattle.pg_law_runs.specs.Deeds.{Did}
 use Rattle.pg_law_course.specs.Course.{course}
 
@@ -32,24 +34,33 @@ number_told (told.Event e) = printed_if e.kind (slice_index e.operands 0)
 number_told k = None
 
 abbrev pub number_printed : Action → Option ℕ
-number_printed (actions.Event (requests.Out n)) = Some n
+number_printed (actions.Event (requests.Out n ends_line)) = Some n
 number_printed (actions.Event (requests.Putchar n)) = Some n
 number_printed action = None
 
--- the bytes of a print: a number in signed decimal and a line feed, or the low byte
-abbrev pub text_of : TurnKind → ℕ → List ℕ
-text_of kinds.Out n = signed_decimal (signed W64 n) ++ 10 ∷ []
-text_of kinds.Putchar n = n % 256 ∷ []
-text_of kind n = []
+-- both calls that print a number are of one kind, so the instruction tells whether a line feed stands behind it
+abbrev pub op_ends_line : Op → Bool
+op_ends_line (op.CallLibrary known.PgOut args) = true
+op_ends_line o = false
 
-abbrev pub text_told : StepKind → List ℕ
-text_told (told.Event e) = text_of e.kind (slice_index e.operands 0)
-text_told k = []
+abbrev pub ends_line : Option Instr → Bool
+ends_line None = false
+ends_line (Some x) = op_ends_line x.op
 
--- what steps print, one after another
-abbrev pub output_of : List Step → List ℕ
-output_of [] = []
-output_of (x ∷ xs) = text_told x.kind ++ output_of xs
+-- the bytes of a print of this kind by an instruction
+abbrev pub text_of : Option Instr → TurnKind → ℕ → List ℕ
+text_of x kinds.Out n = printed_by (requests.Out n (ends_line x))
+text_of x kinds.Putchar n = printed_by (requests.Putchar n)
+text_of x kind n = []
+
+abbrev pub text_told : Option Instr → StepKind → List ℕ
+text_told x (told.Event e) = text_of x e.kind (slice_index e.operands 0)
+text_told x k = []
+
+-- what steps of the program print, one after another
+abbrev pub output_of : NumberedProgram → List Step → List ℕ
+output_of p [] = []
+output_of p (x ∷ xs) = text_told (slice_get p.instrs x.instr.0) x.kind ++ output_of p xs
 
 -- the numbers that thread t prints in its first k steps
 abbrev pub numbers_printed : NumberedProgram → List ℤ → Schedule → ℕ → ℕ → List ℕ
@@ -64,13 +75,13 @@ is_print kind = false
 abbrev pub without_first : ℕ → (ℕ → List ℕ) → ℕ → List ℕ
 without_first t numbers u = if u == t then drop 1 (numbers u) else numbers u
 
--- what these turns print, one after another, where each thread prints these numbers
-abbrev pub output_along : List Turn → (ℕ → List ℕ) → List ℕ
-output_along [] numbers = []
-output_along (u ∷ us) numbers =
+-- what these turns of the program print, one after another, where each thread prints these numbers
+abbrev pub output_along : NumberedProgram → List Turn → (ℕ → List ℕ) → List ℕ
+output_along p [] numbers = []
+output_along p (u ∷ us) numbers =
     if is_print u.kind
-    then text_of u.kind (slice_index (numbers u.thread.0) 0) ++ output_along us (without_first u.thread.0 numbers)
-    else output_along us numbers
+    then text_of (slice_get p.instrs u.instr.0) u.kind (slice_index (numbers u.thread.0) 0) ++ output_along p us (without_first u.thread.0 numbers)
+    else output_along p us numbers
 
 -- the word of thread t behind steps, where it was this before them
 abbrev pub word_behind : ℕ → ℕ → List Did → ℕ

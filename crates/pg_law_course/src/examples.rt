@@ -3,7 +3,7 @@
 ghost use Rattle.std.specs.Prelude.{◌≡◌, ◌∷◌, [], None, Some, true};
 ghost use Rattle.pg_run_trace.specs.declared.turn.TurnKind.TheVariants as turns;
 ghost use Rattle.pg_law_course.specs.Course.{before, turns_from};
-ghost use Rattle.pg_law_course.specs.Examples.{own_number, print, store, stores};
+ghost use Rattle.pg_law_course.specs.Examples.{own_number, print, prints, store, stores};
 ghost use Rattle.pg_law_course.specs.Prints.{output_of};
 ghost use Rattle.pg_law_course.specs.Steps.{answer_by, happening_by, number_in, write_by};
 
@@ -37,7 +37,8 @@ pub fn writes_of_actions()
     ensures join { write_by own_number 0 (Action.Event (Request.Join 3 None)) ≡ None }
 {}
 
-/// A character is printed as its low byte.
+/// A character is printed as its low byte; a number in decimal, and behind it a line feed where its instruction calls `pg_out`.
 pub fn output_of_prints()
-    ensures { output_of (print turns.Putchar 65 ∷ print turns.Lock 0 ∷ print turns.Putchar 322 ∷ []) ≡ 65 ∷ 66 ∷ [] }
+    ensures characters { output_of prints (print turns.Putchar 0 65 ∷ print turns.Lock 0 0 ∷ print turns.Putchar 0 322 ∷ []) ≡ 65 ∷ 66 ∷ [] }
+    ensures numbers { output_of prints (print turns.Out 0 7 ∷ print turns.Out 1 7 ∷ []) ≡ 55 ∷ 55 ∷ 10 ∷ [] }
 {}

@@ -109,9 +109,9 @@ pub fn a_thread_rests_where_the_run_ends()
 /// thread. The main thread's word is what its own steps leave of it.
 pub fn what_a_run_prints_and_exits_with()
     ensures output { (p : NumberedProgram) (input : List ℤ) (s : Schedule) → CanRun p input → IsGoodRun p input s
-        → (run_along p input s).state.printed ≡ output_of (run_along p input s).trace }
+        → (run_along p input s).state.printed ≡ output_of p (run_along p input s).trace }
     ensures by_turns { (p : NumberedProgram) (input : List ℤ) (s : Schedule) → CanRun p input → IsGoodRun p input s
-        → (run_along p input s).state.printed ≡ output_along (take (turn_count p input s) s.turns) (λ t. numbers_printed p input s t (length (course p input s t))) }
+        → (run_along p input s).state.printed ≡ output_along p (take (turn_count p input s) s.turns) (λ t. numbers_printed p input s t (length (course p input s t))) }
     ensures word { (p : NumberedProgram) (input : List ℤ) (s : Schedule) → CanRun p input → IsGoodRun p input s
         → word_in (cells_left p input s) 0 ≡ word_behind 0 0 (course p input s 0) }
 {}

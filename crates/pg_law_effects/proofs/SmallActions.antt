@@ -94,6 +94,7 @@ known_small : (p : NumberedProgram) (types : List Scalar) (t : ℕ) (halfway : B
 known_small p types t halfway rs known.PgIn args program v h = number_is IsSmall p rs args _ traps_small (λ n. tt)
 known_small p types t halfway rs known.PgInLen args program v h = tt
 known_small p types t halfway rs known.PgOut args program v h = number_is IsSmall p rs args _ traps_small (λ n. tt)
+known_small p types t halfway rs known.PgPrint args program v h = number_is IsSmall p rs args _ traps_small (λ n. tt)
 known_small p types t halfway rs known.Putchar args program v h = number_is IsSmall p rs args _ traps_small (λ n. tt)
 known_small p types t halfway rs known.Malloc args program v h = number_is IsSmall p rs args _ traps_small (λ n. tt)
 known_small p types t halfway rs known.Free args program v h = number_is IsSmall p rs args _ traps_small (λ n. tt)

@@ -70,6 +70,7 @@ module _ (p : NumberedProgram) (t : ℕ) (h : Bool) (f : Frame) (fs : List Frame
   known_outcome known.PgIn args = number_is (Q (op.CallLibrary known.PgIn args)) p rs args _ (λ n. tt) (λ i n. past (op.CallLibrary known.PgIn args) _ refl (λ g c. c))
   known_outcome known.PgInLen args = λ n. past (op.CallLibrary known.PgInLen args) _ refl (λ g c. c)
   known_outcome known.PgOut args = number_is (Q (op.CallLibrary known.PgOut args)) p rs args _ (λ n. tt) (λ i n. refl)
+  known_outcome known.PgPrint args = number_is (Q (op.CallLibrary known.PgPrint args)) p rs args _ (λ n. tt) (λ i n. refl)
   known_outcome known.Putchar args = number_is (Q (op.CallLibrary known.Putchar args)) p rs args _ (λ n. tt) (λ i n. refl)
   known_outcome known.Malloc args = number_is (Q (op.CallLibrary known.Malloc args)) p rs args _ (λ n. tt) (λ i. past (op.CallLibrary known.Malloc args) _ refl (λ g c. c))
   known_outcome known.Free args = number_is (Q (op.CallLibrary known.Free args)) p rs args _ (λ n. tt) (λ i. past (op.CallLibrary known.Free args) _ refl (λ g c. c))

@@ -126,6 +126,7 @@ library_fits : (p : NumberedProgram) (types : List Scalar) (k : LibraryCall) (ar
 library_fits p types known.PgIn args h c = h refl
 library_fits p types known.PgInLen args h c = h refl
 library_fits p types known.PgOut args h c = h refl
+library_fits p types known.PgPrint args h c = h refl
 library_fits p types known.Putchar args h c = h refl
 library_fits p types known.Malloc args h c = h refl
 library_fits p types known.Free args h c = h refl

@@ -37,6 +37,7 @@ known_named : (p : NumberedProgram) (t : ℕ) (halfway : Bool) (rs : List (Optio
 known_named p t halfway rs known.PgIn args = number_is (IsCreateNamed (first_four p rs args)) p rs args _ (λ k. tt) (λ n. tt)
 known_named p t halfway rs known.PgInLen args = tt
 known_named p t halfway rs known.PgOut args = number_is (IsCreateNamed (first_four p rs args)) p rs args _ (λ k. tt) (λ n. tt)
+known_named p t halfway rs known.PgPrint args = number_is (IsCreateNamed (first_four p rs args)) p rs args _ (λ k. tt) (λ n. tt)
 known_named p t halfway rs known.Putchar args = number_is (IsCreateNamed (first_four p rs args)) p rs args _ (λ k. tt) (λ n. tt)
 known_named p t halfway rs known.Malloc args = number_is (IsCreateNamed (first_four p rs args)) p rs args _ (λ k. tt) (λ n. tt)
 known_named p t halfway rs known.Free args = number_is (IsCreateNamed (first_four p rs args)) p rs args _ (λ k. tt) (λ n. tt)

@@ -21,7 +21,7 @@ use Rattle.pg_law_plan.proofs.BranchFits.{br_fits, can_at, cond_fits, switch_fit
 use Rattle.pg_law_plan.proofs.CallFits.{call_fits, ret_fits}
 use Rattle.pg_law_plan.proofs.ComputationFits.{computing_fits}
 use Rattle.pg_law_plan.proofs.ThreadEndFits.{pthread_exit_fits, ret_exit_fits}
-use Rattle.pg_law_plan.proofs.ThreadEventFits.{out_fits, putchar_fits}
+use Rattle.pg_law_plan.proofs.ThreadEventFits.{out_fits, print_fits, putchar_fits}
 use Rattle.pg_law_plan.proofs.ObjectEventFits.{object_fits}
 use Rattle.pg_law_plan.proofs.StepChecks.{IsGood}
 use Rattle.pg_law_plan.proofs.LocalStepFits.{Pair}
@@ -44,6 +44,7 @@ module _ (r : ReferenceRun) (d : Taken) (input : List ℤ) (program : IsProgram 
   library_fits known.PgIn args e = pg_in_fits r d input program u st moves y q args e
   library_fits known.PgInLen args e = pg_in_len_fits r d input program u st moves y q args small e
   library_fits known.PgOut args e = out_fits r d input program u st moves y q good objects args e
+  library_fits known.PgPrint args e = print_fits r d input program u st moves y q good objects args e
   library_fits known.Putchar args e = putchar_fits r d input program u st moves y q good objects args e
   library_fits known.Malloc args e = malloc_fits r d input program u st moves y q good args e
   library_fits known.Free args e = free_fits r d input program u st moves y q args e

@@ -26,21 +26,21 @@ use Rattle.pg_law_plan.proofs.ComputedNumbers.{value_done}
 abbrev pub core : Request → Request
 core (requests.Exit n is_return) = requests.Exit 0 is_return
 core (requests.Create r f n) = requests.Create r f 0
-core (requests.Out n) = requests.Out 0
+core (requests.Out n b) = requests.Out 0 b
 core (requests.Putchar n) = requests.Putchar 0
 core r = r
 
 pub kind_core : (r : Request) → kind_of r ≡ kind_of (core r)
 kind_core (requests.Exit n b) = refl
 kind_core (requests.Create r f n) = refl
-kind_core (requests.Out n) = refl
+kind_core (requests.Out n b) = refl
 kind_core (requests.Putchar n) = refl
 kind_core r = refl
 
 pub object_core : (t n : ℕ) (r : Request) → object_of t n r ≡ object_of t n (core r)
 object_core t n (requests.Exit m b) = refl
 object_core t n (requests.Create r f m) = refl
-object_core t n (requests.Out m) = refl
+object_core t n (requests.Out m b) = refl
 object_core t n (requests.Putchar m) = refl
 object_core t n r = refl
 
@@ -48,7 +48,7 @@ pub done_core : (y : sync.Sync) (t : ℕ) (r : Request) → (sync.done y t r).0 
 unfolding sync.done
 done_core y t (requests.Exit m b) = refl
 done_core y t (requests.Create r f m) = refl
-done_core y t (requests.Out m) = refl
+done_core y t (requests.Out m b) = refl
 done_core y t (requests.Putchar m) = refl
 done_core y t r = refl
 
@@ -65,7 +65,7 @@ start_core r fs = fs
 made_core : (p : NumberedProgram) (s : State) (r : Request) (fs : List (Option ℕ)) → start_made (thread_made p s r) fs ≡ start_core (core r) fs
 made_core p s (requests.Create r f n) fs = ap (λ (o : Option ℕ). fs ++ o ∷ []) (starts_with p (length s.locals) f)
 made_core p s (requests.Exit n b) fs = refl
-made_core p s (requests.Out n) fs = refl
+made_core p s (requests.Out n b) fs = refl
 made_core p s (requests.Putchar n) fs = refl
 made_core p s r fs = refl
 

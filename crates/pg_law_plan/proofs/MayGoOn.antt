@@ -60,9 +60,9 @@ free_create : (r : Rattle.pg_num.specs.Places.ByteRange) (f n : ℕ) → IsFree 
 unfolding sync.ready
 free_create r f n s t e = or_true (is_some (sync.check s.sync t (requests.Create r f n)))
 
-free_out : (n : ℕ) → IsFree (actions.Event (requests.Out n))
+free_out : (b : Bool) (n : ℕ) → IsFree (actions.Event (requests.Out n b))
 unfolding sync.ready
-free_out n s t e = or_true (is_some (sync.check s.sync t (requests.Out n)))
+free_out b n s t e = or_true (is_some (sync.check s.sync t (requests.Out n b)))
 
 free_putchar : (n : ℕ) → IsFree (actions.Event (requests.Putchar n))
 unfolding sync.ready
@@ -77,7 +77,8 @@ free_local s t e = refl
 known_free : (p : NumberedProgram) (t : ℕ) (h : Bool) (rs : List (Option ℕ)) (k : LibraryCall) (args : List Value) → is_checked k ≡ false → IsFree (library_action p t h rs k args)
 known_free p t h rs known.PgIn args c = number_is IsFree p rs args _ free_trap (λ n s t e. refl)
 known_free p t h rs known.PgInLen args c = λ s t e. refl
-known_free p t h rs known.PgOut args c = number_is IsFree p rs args _ free_trap free_out
+known_free p t h rs known.PgOut args c = number_is IsFree p rs args _ free_trap (free_out true)
+known_free p t h rs known.PgPrint args c = number_is IsFree p rs args _ free_trap (free_out false)
 known_free p t h rs known.Putchar args c = number_is IsFree p rs args _ free_trap free_putchar
 known_free p t h rs known.Malloc args c = number_is IsFree p rs args _ free_trap (λ n. free_local)
 known_free p t h rs known.Free args c = number_is IsFree p rs args _ free_trap (λ n. free_local)
@@ -159,9 +160,9 @@ check_exit : (s : State) (t n : ℕ) (b : Bool) → sync.check s.sync t (request
 unfolding sync.check
 check_exit s t n b = refl
 
-check_out : (s : State) (t n : ℕ) → sync.check s.sync t (requests.Out n) ≡ None
+check_out : (s : State) (t n : ℕ) (b : Bool) → sync.check s.sync t (requests.Out n b) ≡ None
 unfolding sync.check
-check_out s t n = refl
+check_out s t n b = refl
 
 check_putchar : (s : State) (t n : ℕ) → sync.check s.sync t (requests.Putchar n) ≡ None
 unfolding sync.check
@@ -183,7 +184,8 @@ module _ (s : State) (t : ℕ) where
       → IsUnchecked s t (library_action p u h rs k args)
   known_unchecked p u h rs known.PgIn args c room = number_is (IsUnchecked s t) p rs args _ trap_unchecked (λ n q e. absurd cc)
   known_unchecked p u h rs known.PgInLen args c room = λ q e. absurd cc
-  known_unchecked p u h rs known.PgOut args c room = number_is (IsUnchecked s t) p rs args _ trap_unchecked (λ n. asked s t (requests.Out n) (check_out s t n))
+  known_unchecked p u h rs known.PgOut args c room = number_is (IsUnchecked s t) p rs args _ trap_unchecked (λ n. asked s t (requests.Out n true) (check_out s t n true))
+  known_unchecked p u h rs known.PgPrint args c room = number_is (IsUnchecked s t) p rs args _ trap_unchecked (λ n. asked s t (requests.Out n false) (check_out s t n false))
   known_unchecked p u h rs known.Putchar args c room = number_is (IsUnchecked s t) p rs args _ trap_unchecked (λ n. asked s t (requests.Putchar n) (check_putchar s t n))
   known_unchecked p u h rs known.Malloc args c room = number_is (IsUnchecked s t) p rs args _ trap_unchecked (λ n. local_unchecked)
   known_unchecked p u h rs known.Free args c room = number_is (IsUnchecked s t) p rs args _ trap_unchecked (λ n. local_unchecked)

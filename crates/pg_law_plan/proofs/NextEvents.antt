@@ -56,6 +56,7 @@ module _ (gated : List InstrId) (id : ℕ) where
   known_so p t h rs known.PgIn args = number_is (IsSo false) p rs args _ (λ z c. absurd c) (λ n c. refl)
   known_so p t h rs known.PgInLen args = λ c. refl
   known_so p t h rs known.PgOut args = number_is (IsSo true) p rs args _ (λ z c. absurd c) (λ n c. refl)
+  known_so p t h rs known.PgPrint args = number_is (IsSo true) p rs args _ (λ z c. absurd c) (λ n c. refl)
   known_so p t h rs known.Putchar args = number_is (IsSo true) p rs args _ (λ z c. absurd c) (λ n c. refl)
   known_so p t h rs known.Malloc args = number_is (IsSo false) p rs args _ (λ z c. absurd c) (λ n c. refl)
   known_so p t h rs known.Free args = number_is (IsSo false) p rs args _ (λ z c. absurd c) (λ n c. refl)

@@ -138,8 +138,12 @@ shape_barrier false o = a_shape known.PthreadBarrierWait false (barrier_request 
     (λ p m e a x c. refl) (λ g n. absurd cc) (λ z n a. refl) (λ z n. refl) refl (λ s t y. refl) (λ s n. refl) (λ s. refl)
     refl (λ p s. refl) (λ t. refl) (λ t e w. refl) (λ t e. refl)
 
-pub shape_out : (h : Bool) (n : ℕ) → Shape known.PgOut h (requests.Out n)
-shape_out h n = a_shape known.PgOut h (requests.Out n) true (λ f g. refl)
+pub shape_out : (h : Bool) (n : ℕ) → Shape known.PgOut h (requests.Out n true)
+shape_out h n = a_shape known.PgOut h (requests.Out n true) true (λ f g. refl)
+    (λ p m e a x c. refl) (λ g n. refl) (λ z n a. refl) (λ z n. refl) refl (λ s t y. refl) (λ s n. refl) (λ s. refl) refl (λ p s. refl) (λ t. refl) (λ t e w. refl) (λ t e. refl)
+
+pub shape_print : (h : Bool) (n : ℕ) → Shape known.PgPrint h (requests.Out n false)
+shape_print h n = a_shape known.PgPrint h (requests.Out n false) true (λ f g. refl)
     (λ p m e a x c. refl) (λ g n. refl) (λ z n a. refl) (λ z n. refl) refl (λ s t y. refl) (λ s n. refl) (λ s. refl) refl (λ p s. refl) (λ t. refl) (λ t e w. refl) (λ t e. refl)
 
 pub shape_join : (h : Bool) (n : ℕ) → Shape known.PthreadJoin h (requests.Join n None)

@@ -10,6 +10,7 @@ use Rattle.pg_num.specs.declared.layout.TheConstants.{MEMORY_BYTES}
 use Rattle.pg_num.specs.declared.width.Width.TheVariants.{W32}
 use Rattle.pg_ir.specs.declared.instr.Op.{Op}
 use Rattle.pg_ir.specs.declared.instr.Op.TheVariants as op
+use Rattle.pg_ir.specs.declared.library_call.LibraryCall.{LibraryCall}
 use Rattle.pg_ir.specs.declared.library_call.LibraryCall.TheVariants as known
 use Rattle.pg_ir.specs.declared.request.Request.{Request}
 use Rattle.pg_ir.specs.declared.request.Request.TheVariants as requests
@@ -18,10 +19,12 @@ use Rattle.pg_ir.specs.WellFormed.{IsProgram}
 use Rattle.pg_law_threads.specs.Effects.{or_old}
 use Rattle.pg_law_threads.specs.Plans.{Fits}
 use Rattle.pg_run_objects.specs.Sync as sync
+use Rattle.pg_run_thread.specs.declared.action.Action.{Action}
 use Rattle.pg_run_thread.specs.declared.action.Action.TheVariants as actions
 use Rattle.pg_run_thread.specs.LocalState.{own_memory}
 use Rattle.pg_run_thread.specs.Operands.{argument}
-use Rattle.pg_run_thread.specs.Step.{heap_after, op_after}
+use Rattle.pg_run_thread.specs.States.{CanStep}
+use Rattle.pg_run_thread.specs.Step.{heap_after, on_value, op_after}
 use Rattle.pg_run_trace.specs.declared.step.Event.{Event}
 use Rattle.pg_run_trace.specs.declared.step.Step.{Step}
 use Rattle.pg_run_trace.specs.declared.step.StepKind.{StepKind}
@@ -55,7 +58,7 @@ use Rattle.pg_law_plan.proofs.LikeOperands.{argument_like}
 use Rattle.pg_law_plan.proofs.LoadFits.{effect_reads, effect_request, effect_thread, effect_word, effect_writes}
 use Rattle.pg_law_plan.proofs.LikeRequests.{core}
 use Rattle.pg_law_plan.proofs.ComputedNumbers.{on_some, value_done}
-use Rattle.pg_law_plan.proofs.RequestEffects.{shape_out}
+use Rattle.pg_law_plan.proofs.RequestEffects.{Shape, shape_out, shape_print}
 
 either_false : (b : Bool) → (if b then false else false) ≡ false
 either_false true = refl
@@ -203,20 +206,35 @@ module _ (r : ReferenceRun) (d : Taken) (input : List ℤ) (program : IsProgram 
 
   -- ---- prints
 
-  out_done : (s : sync.Sync) (t n : ℕ) → (sync.done s t (requests.Out n)).1.value ≡ 0
+  out_done : (s : sync.Sync) (t n : ℕ) (line : Bool) → (sync.done s t (requests.Out n line)).1.value ≡ 0
   unfolding sync.done
-  out_done s t n = refl
+  out_done s t n line = refl
 
-  pub out_fits : (args : List Value) → q.both.x.op ≡ op.CallLibrary known.PgOut args → Fits (like input) (deed_of d u) (deed_moved r.program input st moves y)
-  out_fits args e =
+  -- a number, with a line feed or without
+  abbrev asks_out : Bool → List (Option ℕ) → List Value → Action
+  asks_out line rs args = on_value (argument r.program rs args 0) (λ n. actions.Event (requests.Out n line))
+
+  number_fits : (k : LibraryCall) (line : Bool) (args : List Value) → q.both.x.op ≡ op.CallLibrary k args → ((n : ℕ) → Shape k q.both.h (requests.Out n line))
+      → next_of r.program u.state (thread_in u.seen.moment) ≡ asks_out line q.both.f0.registers args → CanStep (asks_out line q.both.f0.registers args)
+      → next_of r.program st (thread_in u.seen.moment) ≡ asks_out line q.both.f.registers args → CanStep (asks_out line q.both.f.registers args)
+      → Fits (like input) (deed_of d u) (deed_moved r.program input st moves y)
+  number_fits k line args e shape act0 can0 act can =
       let p = r.program in
       let b = q.both in
-      let v0 = value_done (argument p b.f0.registers args 0) (λ n. actions.Event (requests.Out n)) (can0_at r d input u st moves y q (op.CallLibrary known.PgOut args) e) in
-      let v = value_done (argument p b.f.registers args 0) (λ n. actions.Event (requests.Out n)) (can_at r d input u st moves y q (op.CallLibrary known.PgOut args) e) in
-      shaped_fits r d input program u st moves y q good objects known.PgOut args e (requests.Out v0.0) (requests.Out v.0)
-      (act0_at r d input u st moves y q (op.CallLibrary known.PgOut args) e ∙ on_some (argument p b.f0.registers args 0) v0.0 (λ n. actions.Event (requests.Out n)) v0.1)
-      (act_at r d input u st moves y q (op.CallLibrary known.PgOut args) e ∙ on_some (argument p b.f.registers args 0) v.0 (λ n. actions.Event (requests.Out n)) v.1)
-      refl (shape_out b.h v0.0) (shape_out b.h v.0) (λ s. out_done s (thread_in u.seen.moment) v.0 ∙ sym (out_done s (thread_in u.seen.moment) v0.0))
+      let v0 = value_done (argument p b.f0.registers args 0) (λ n. actions.Event (requests.Out n line)) can0 in
+      let v = value_done (argument p b.f.registers args 0) (λ n. actions.Event (requests.Out n line)) can in
+      shaped_fits r d input program u st moves y q good objects k args e (requests.Out v0.0 line) (requests.Out v.0 line)
+      (act0 ∙ on_some (argument p b.f0.registers args 0) v0.0 (λ n. actions.Event (requests.Out n line)) v0.1)
+      (act ∙ on_some (argument p b.f.registers args 0) v.0 (λ n. actions.Event (requests.Out n line)) v.1)
+      refl (shape v0.0) (shape v.0) (λ s. out_done s (thread_in u.seen.moment) v.0 line ∙ sym (out_done s (thread_in u.seen.moment) v0.0 line))
+
+  pub out_fits : (args : List Value) → q.both.x.op ≡ op.CallLibrary known.PgOut args → Fits (like input) (deed_of d u) (deed_moved r.program input st moves y)
+  out_fits args e = let o = op.CallLibrary known.PgOut args in
+      number_fits known.PgOut true args e (shape_out q.both.h) (act0_at r d input u st moves y q o e) (can0_at r d input u st moves y q o e) (act_at r d input u st moves y q o e) (can_at r d input u st moves y q o e)
+
+  pub print_fits : (args : List Value) → q.both.x.op ≡ op.CallLibrary known.PgPrint args → Fits (like input) (deed_of d u) (deed_moved r.program input st moves y)
+  print_fits args e = let o = op.CallLibrary known.PgPrint args in
+      number_fits known.PgPrint false args e (shape_print q.both.h) (act0_at r d input u st moves y q o e) (can0_at r d input u st moves y q o e) (act_at r d input u st moves y q o e) (can_at r d input u st moves y q o e)
 
   putchar_done : (s : sync.Sync) (t n : ℕ) → (sync.done s t (requests.Putchar n)).1.value ≡ n % 256
   unfolding sync.done

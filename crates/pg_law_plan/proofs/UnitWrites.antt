@@ -73,6 +73,7 @@ quiet_known : (p : NumberedProgram) (t : ℕ) (h : Bool) (rs : List (Option ℕ)
 quiet_known p t h rs known.PgIn args c j = number_is IsQuiet p rs args _ (λ n. refl) (λ n. refl)
 quiet_known p t h rs known.PgInLen args c j = refl
 quiet_known p t h rs known.PgOut args c j = number_is IsQuiet p rs args _ (λ n. refl) (λ n. refl)
+quiet_known p t h rs known.PgPrint args c j = number_is IsQuiet p rs args _ (λ n. refl) (λ n. refl)
 quiet_known p t h rs known.Putchar args c j = number_is IsQuiet p rs args _ (λ n. refl) (λ n. refl)
 quiet_known p t h rs known.Malloc args c j = number_is IsQuiet p rs args _ (λ n. refl) (λ n. refl)
 quiet_known p t h rs known.Free args c j = number_is IsQuiet p rs args _ (λ n. refl) (λ n. refl)

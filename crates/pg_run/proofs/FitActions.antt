@@ -75,6 +75,7 @@ library_fits : (p : NumberedProgram) (types : List Scalar) (t : ℕ) (halfway : 
 library_fits p types t halfway rs known.PgIn args h = number_is (ActionFits p) p rs args _ (traps_fit p) (λ n. tt)
 library_fits p types t halfway rs known.PgInLen args h = tt
 library_fits p types t halfway rs known.PgOut args h = number_is (ActionFits p) p rs args _ (traps_fit p) (λ n. tt)
+library_fits p types t halfway rs known.PgPrint args h = number_is (ActionFits p) p rs args _ (traps_fit p) (λ n. tt)
 library_fits p types t halfway rs known.Putchar args h = number_is (ActionFits p) p rs args _ (traps_fit p) (λ n. tt)
 library_fits p types t halfway rs known.Malloc args h = number_is (ActionFits p) p rs args _ (traps_fit p) (λ n. tt)
 library_fits p types t halfway rs known.Free args h = number_is (ActionFits p) p rs args _ (traps_fit p) (λ n. tt)

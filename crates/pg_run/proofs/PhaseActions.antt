@@ -39,6 +39,7 @@ known_before : (p : NumberedProgram) (t : ℕ) (halfway : Bool) (rs : List (Opti
 known_before p t halfway rs known.PgIn args = number_is (Before Going) p rs args _ (traps_before Going) (λ n c. refl)
 known_before p t halfway rs known.PgInLen args = λ c. refl
 known_before p t halfway rs known.PgOut args = number_is (Before Going) p rs args _ (traps_before Going) (λ n c. refl)
+known_before p t halfway rs known.PgPrint args = number_is (Before Going) p rs args _ (traps_before Going) (λ n c. refl)
 known_before p t halfway rs known.Putchar args = number_is (Before Going) p rs args _ (traps_before Going) (λ n c. refl)
 known_before p t halfway rs known.Malloc args = number_is (Before Going) p rs args _ (traps_before Going) (λ n c. refl)
 known_before p t halfway rs known.Free args = number_is (Before Going) p rs args _ (traps_before Going) (λ n c. refl)
@@ -140,6 +141,7 @@ known_then : (p : NumberedProgram) (t : ℕ) (hw : Bool) (f : Frame) (fs : List 
     → slice_get p.instrs f.place ≡ Some x → x.op ≡ op.CallLibrary k args → After (phase_then p (running t hw f fs heap) x answer (op.CallLibrary k args)) (library_action p t hw f.registers k args)
 known_then p t hw f fs heap x answer known.PgIn args e g = number_is (After _) p f.registers args _ (traps_after _) (λ n c. instr_goes _)
 known_then p t hw f fs heap x answer known.PgOut args e g = number_is (After _) p f.registers args _ (traps_after _) (λ n c. instr_goes _)
+known_then p t hw f fs heap x answer known.PgPrint args e g = number_is (After _) p f.registers args _ (traps_after _) (λ n c. instr_goes _)
 known_then p t hw f fs heap x answer known.Putchar args e g = number_is (After _) p f.registers args _ (traps_after _) (λ n c. instr_goes _)
 known_then p t hw f fs heap x answer known.Malloc args e g = number_is (After _) p f.registers args _ (traps_after _) (λ n c. instr_goes _)
 known_then p t hw f fs heap x answer known.Free args e g = number_is (After _) p f.registers args _ (traps_after _) (λ n c. instr_goes _)

@@ -1,6 +1,6 @@
 //! The answers to actions.
 
-ghost use Rattle.std.specs.Prelude.{◌≡◌, ◌<◌, ◌≤◌, ◌+◌, ◌*◌, ◌^◌, ◌++◌, ◌∷◌, [], length, slice_get, slice_set, slice_index, IfOk, IfSome, OnErr};
+ghost use Rattle.std.specs.Prelude.{◌≡◌, ◌<◌, ◌≤◌, ◌+◌, ◌*◌, ◌^◌, ◌++◌, ◌∷◌, [], length, slice_get, slice_set, slice_index, string_bytes, IfOk, IfSome, OnErr};
 ghost use Rattle.pg_num.specs.declared.limits.TheConstants.{THREAD_LIMIT};
 ghost use Rattle.pg_ir.specs.declared.request.Request.TheVariants as requests;
 ghost use Rattle.pg_run_memory.specs.Memory.{written};
@@ -9,6 +9,7 @@ ghost use Rattle.pg_run.specs.Completed.{completed, on_completed};
 ghost use Rattle.pg_run.specs.Fits.{JoinFits};
 ghost use Rattle.pg_run.specs.Machine.{MayAsk, MayDo};
 ghost use Rattle.pg_run.specs.MachineStep.{answer_of, answered, on_applied, written_if};
+ghost use Rattle.pg_run.specs.Texts.{printed_by};
 ghost use Rattle.pg_num.specs.Inputs.{input_at};
 
 use crate::run::Run;
@@ -30,6 +31,15 @@ pub fn number_at(input: &[i64], index: i64) -> u64
         Some(&n) => from_signed(Width::W64, n),
         None => 0,
     }
+}
+
+/// The text of a number that is printed: in signed decimal, and a line feed where it ends its line.
+fn number_text(alloc: Global, value: u64, ends_line: bool) -> Result<String, AllocError>
+    ensures { IfOk result (λ text. string_bytes text ≡ printed_by (requests.Out value ends_line)) }
+{
+    let number = to_signed(Width::W64, value);
+    let line_end = if ends_line { "\n" } else { "" };
+    format!(in alloc; "{number}{line_end}")
 }
 
 impl MachineState {
@@ -145,10 +155,9 @@ impl MachineState {
                 function,
                 argument,
             } => self.create(alloc, p, t, at, function, argument),
-            Request::Out { value } => {
-                let number = to_signed(Width::W64, value);
-                let line = format!(in alloc; "{number}\n")?;
-                self.print(alloc, line.as_bytes())?;
+            Request::Out { value, ends_line } => {
+                let text = number_text(alloc, value, ends_line)?;
+                self.print(alloc, text.as_bytes())?;
                 Ok(self.settle(p, t, r))
             }
             Request::Putchar { value } => {

@@ -256,7 +256,7 @@ done y t (BarrierInit o n) = if n == 0 then (y, answer EINVAL) else (record y { 
 done y t (Arrive o) = (arrive_at y t o (object_at o y.objects), answer 0)
 done y t (Leave o) = (record y { threads = at_stage t Running y.threads }, answer (if was_last (stage_of y t) then PTHREAD_BARRIER_SERIAL_THREAD else 0))
 done y t (BarrierDestroy o) = (record y { objects = drop_object o y.objects }, answer 0)
-done y t (Out n) = (y, answer 0)
+done y t (Out n ends_line) = (y, answer 0)
 done y t (Putchar n) = (y, answer (n % 256))
 
 abbrev pub on_check : Option TrapName → Sync → Sync × Reply → Sync × Result Reply TrapName

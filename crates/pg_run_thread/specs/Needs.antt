@@ -91,6 +91,7 @@ IsPlain _ = ⊥
 abbrev pub TakesNumber : LibraryCall → Type 0
 TakesNumber known.PgIn = Unit {0}
 TakesNumber known.PgOut = Unit {0}
+TakesNumber known.PgPrint = Unit {0}
 TakesNumber known.Putchar = Unit {0}
 TakesNumber known.Malloc = Unit {0}
 TakesNumber known.Free = Unit {0}

@@ -117,7 +117,8 @@ barrier_request halfway o = if halfway then requests.Leave o else requests.Arriv
 abbrev pub library_action : NumberedProgram → ℕ → Bool → List (Option ℕ) → LibraryCall → List Value → Action
 library_action p t halfway rs known.PgIn args = on_value (argument p rs args 0) (λ n. actions.In (signed W64 n))
 library_action p t halfway rs known.PgInLen args = actions.InLen
-library_action p t halfway rs known.PgOut args = on_value (argument p rs args 0) (λ n. actions.Event (requests.Out n))
+library_action p t halfway rs known.PgOut args = on_value (argument p rs args 0) (λ n. actions.Event (requests.Out n true))
+library_action p t halfway rs known.PgPrint args = on_value (argument p rs args 0) (λ n. actions.Event (requests.Out n false))
 library_action p t halfway rs known.Putchar args = on_value (argument p rs args 0) (λ n. actions.Event (requests.Putchar n))
 library_action p t halfway rs known.Malloc args = on_value (argument p rs args 0) (λ n. actions.Local)
 library_action p t halfway rs known.Free args = on_value (argument p rs args 0) (λ n. actions.Local)

@@ -228,7 +228,14 @@ fn number_action(p: &Program, here: &Present, function: LibraryCall, args: &[Val
     };
     match function {
         LibraryCall::PgIn => Action::In(signed_reading(n)),
-        LibraryCall::PgOut => Action::Event(Request::Out { value: n }),
+        LibraryCall::PgOut => Action::Event(Request::Out {
+            value: n,
+            ends_line: true,
+        }),
+        LibraryCall::PgPrint => Action::Event(Request::Out {
+            value: n,
+            ends_line: false,
+        }),
         LibraryCall::Putchar => Action::Event(Request::Putchar { value: n }),
         LibraryCall::PthreadExit => Action::Event(Request::Exit {
             value: exit_value(here.memory.thread, n),
@@ -254,6 +261,7 @@ pub(crate) fn library_action(
         LibraryCall::PgInLen => Action::InLen,
         LibraryCall::PgIn
         | LibraryCall::PgOut
+        | LibraryCall::PgPrint
         | LibraryCall::Putchar
         | LibraryCall::Malloc
         | LibraryCall::Free
@@ -279,6 +287,7 @@ pub(crate) fn library_number(memory: ThreadMemory, function: LibraryCall, n: u64
         LibraryCall::PgIn
         | LibraryCall::PgInLen
         | LibraryCall::PgOut
+        | LibraryCall::PgPrint
         | LibraryCall::Free
         | LibraryCall::PthreadExit => reply,
         _ => trunc(Width::W32, reply),

@@ -25,7 +25,7 @@ kind_of (requests.BarrierInit o n) = kinds.BarrierInit
 kind_of (requests.Arrive o) = kinds.Arrive
 kind_of (requests.Leave o) = kinds.Leave
 kind_of (requests.BarrierDestroy o) = kinds.BarrierDestroy
-kind_of (requests.Out n) = kinds.Out
+kind_of (requests.Out n ends_line) = kinds.Out
 kind_of (requests.Putchar n) = kinds.Putchar
 
 -- what the request of thread t names, where so many threads are made: a thread by its number, a mutex,
@@ -50,7 +50,7 @@ object_of t made (requests.BarrierInit o n) = o
 object_of t made (requests.Arrive o) = o
 object_of t made (requests.Leave o) = o
 object_of t made (requests.BarrierDestroy o) = o
-object_of t made (requests.Out n) = 0
+object_of t made (requests.Out n ends_line) = 0
 object_of t made (requests.Putchar n) = 0
 
 -- kinds by their number, in the order in which they are declared

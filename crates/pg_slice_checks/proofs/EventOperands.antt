@@ -28,6 +28,7 @@ few_checked : (k : LibraryCall) → length (checked k) ≤ 4
 few_checked known.PgIn = omega arith
 few_checked known.PgInLen = omega arith
 few_checked known.PgOut = omega arith
+few_checked known.PgPrint = omega arith
 few_checked known.Putchar = omega arith
 few_checked known.Malloc = omega arith
 few_checked known.Free = omega arith

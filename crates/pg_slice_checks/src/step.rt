@@ -54,6 +54,7 @@ fn checked(function: LibraryCall) -> usize
         LibraryCall::PgIn
         | LibraryCall::PgInLen
         | LibraryCall::PgOut
+        | LibraryCall::PgPrint
         | LibraryCall::Putchar
         | LibraryCall::Malloc
         | LibraryCall::Free

@@ -66,6 +66,7 @@ module _ (gated : List InstrId) (p : NumberedProgram) (s : State) (t answer numb
   library_told u halfway rs known.PgIn args e = number_is (IsTold (first_four p rs args) (op.CallLibrary known.PgIn args)) p rs args _ (λ n h c. absurd c) (λ n f c. (refl, tt))
   library_told u halfway rs known.PgInLen args e = λ f c. (refl, tt)
   library_told u halfway rs known.PgOut args e = number_is (IsTold (first_four p rs args) (op.CallLibrary known.PgOut args)) p rs args _ (λ n h c. absurd c) (λ n h c. (tt, λ q. absurd cc))
+  library_told u halfway rs known.PgPrint args e = number_is (IsTold (first_four p rs args) (op.CallLibrary known.PgPrint args)) p rs args _ (λ n h c. absurd c) (λ n h c. (tt, λ q. absurd cc))
   library_told u halfway rs known.Putchar args e = number_is (IsTold (first_four p rs args) (op.CallLibrary known.Putchar args)) p rs args _ (λ n h c. absurd c) (λ n h c. (tt, λ q. absurd cc))
   library_told u halfway rs known.Malloc args e = number_is (IsTold (first_four p rs args) (op.CallLibrary known.Malloc args)) p rs args _ (λ n h c. absurd c)
       (λ n. local_told (first_four p rs args) (op.CallLibrary known.Malloc args) e (refl, tt))

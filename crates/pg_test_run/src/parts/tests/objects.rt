@@ -286,7 +286,14 @@ fn threads(rt: HostRuntime) -> Result<(), Fail> {
         (1, exit(true), Misplaced),
         (0, join(1), Joins(1)),
         (0, join(1), Traps(TrapName::BadJoin)),
-        (0, Request::Out { value: 7 }, Says(0)),
+        (
+            0,
+            Request::Out {
+                value: 7,
+                ends_line: true,
+            },
+            Says(0),
+        ),
         (0, Request::Putchar { value: 0x141 }, Says(0x41)),
     ];
     assert_eq!(rt; first_difference(&mut state, &rows), None);
