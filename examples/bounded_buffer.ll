@@ -18,8 +18,7 @@ target triple = "x86_64-pc-linux-gnu"
 @buffer = internal global [3 x i64] zeroinitializer, align 16
 @last = internal global i32 0, align 4
 @first = internal global i32 0, align 4
-@pg.print.text.2 = private constant [15 x i8] c" numbers, sum \00"
-@pg.print.text.5 = private constant [2 x i8] c"\0A\00"
+@pg.print.text.1 = private constant [15 x i8] c" numbers, sum \00"
 
 define dso_local i32 @main() #0 {
 v.0:
@@ -105,14 +104,9 @@ v.58:
 v.61:
   %v.62 = call i64 @pg_in_len()
   %v.63 = load i64, ptr %v.6, align 8
-  %pg.print.count.1 = call i32 @pg_print_signed(i64 %v.62, i32 0, i32 32)
-  %pg.print.count.3 = call i32 @pg_print_text(ptr @pg.print.text.2)
-  %pg.print.count.4 = call i32 @pg_print_signed(i64 %v.63, i32 0, i32 32)
-  %pg.print.count.6 = call i32 @pg_print_text(ptr @pg.print.text.5)
-  %pg.print.sum.7 = add i32 0, %pg.print.count.1
-  %pg.print.sum.8 = add i32 %pg.print.sum.7, %pg.print.count.3
-  %pg.print.sum.9 = add i32 %pg.print.sum.8, %pg.print.count.4
-  %v.64 = add i32 %pg.print.sum.9, %pg.print.count.6
+  call void @pg_print(i64 %v.62)
+  %pg.print.count.2 = call i32 @pg_print_text(ptr @pg.print.text.1)
+  call void @pg_out(i64 %v.63)
   ret i32 0
 }
 
@@ -198,35 +192,6 @@ v.27:
   ret ptr %v.29
 }
 
-define dso_local i32 @pg_print_signed(i64 noundef %v.0, i32 noundef %v.1, i32 noundef %v.2) {
-v.3:
-  %v.4 = alloca i64, align 8
-  %v.5 = alloca i32, align 4
-  %v.6 = alloca i32, align 4
-  store i64 %v.0, ptr %v.4, align 8
-  store i32 %v.1, ptr %v.5, align 4
-  store i32 %v.2, ptr %v.6, align 4
-  %v.7 = load i64, ptr %v.4, align 8
-  %v.8 = icmp slt i64 %v.7, 0
-  br i1 %v.8, label %v.9, label %v.15
-v.9:
-  %v.10 = load i64, ptr %v.4, align 8
-  %v.11 = sub i64 0, %v.10
-  %v.12 = load i32, ptr %v.5, align 4
-  %v.13 = load i32, ptr %v.6, align 4
-  %v.14 = call i32 @pg_print_unsigned(i64 noundef %v.11, i32 noundef 10, i32 noundef 1, i32 noundef %v.12, i32 noundef %v.13)
-  br label %v.20
-v.15:
-  %v.16 = load i64, ptr %v.4, align 8
-  %v.17 = load i32, ptr %v.5, align 4
-  %v.18 = load i32, ptr %v.6, align 4
-  %v.19 = call i32 @pg_print_unsigned(i64 noundef %v.16, i32 noundef 10, i32 noundef 0, i32 noundef %v.17, i32 noundef %v.18)
-  br label %v.20
-v.20:
-  %v.21 = phi i32 [ %v.14, %v.9 ], [ %v.19, %v.15 ]
-  ret i32 %v.21
-}
-
 define dso_local i32 @pg_print_text(ptr noundef %v.0) {
 v.1:
   %v.2 = alloca ptr, align 8
@@ -259,148 +224,6 @@ v.19:
 v.22:
   %v.23 = load i32, ptr %v.3, align 4
   ret i32 %v.23
-}
-
-define dso_local i32 @pg_print_unsigned(i64 noundef %v.0, i32 noundef %v.1, i32 noundef %v.2, i32 noundef %v.3, i32 noundef %v.4) {
-v.5:
-  %v.6 = alloca i64, align 8
-  %v.7 = alloca i32, align 4
-  %v.8 = alloca i32, align 4
-  %v.9 = alloca i32, align 4
-  %v.10 = alloca i32, align 4
-  %v.11 = alloca [24 x i8], align 16
-  %v.12 = alloca i32, align 4
-  %v.13 = alloca i32, align 4
-  %v.14 = alloca i32, align 4
-  %v.15 = alloca i32, align 4
-  store i64 %v.0, ptr %v.6, align 8
-  store i32 %v.1, ptr %v.7, align 4
-  store i32 %v.2, ptr %v.8, align 4
-  store i32 %v.3, ptr %v.9, align 4
-  store i32 %v.4, ptr %v.10, align 4
-  store i32 0, ptr %v.12, align 4
-  store i32 0, ptr %v.13, align 4
-  br label %v.16
-v.16:
-  %v.17 = load i64, ptr %v.6, align 8
-  %v.18 = load i32, ptr %v.7, align 4
-  %v.19 = sext i32 %v.18 to i64
-  %v.20 = urem i64 %v.17, %v.19
-  %v.21 = trunc i64 %v.20 to i32
-  store i32 %v.21, ptr %v.14, align 4
-  %v.22 = load i32, ptr %v.14, align 4
-  %v.23 = icmp slt i32 %v.22, 10
-  br i1 %v.23, label %v.24, label %v.27
-v.24:
-  %v.25 = load i32, ptr %v.14, align 4
-  %v.26 = add nsw i32 48, %v.25
-  br label %v.31
-v.27:
-  %v.28 = load i32, ptr %v.14, align 4
-  %v.29 = add nsw i32 97, %v.28
-  %v.30 = sub nsw i32 %v.29, 10
-  br label %v.31
-v.31:
-  %v.32 = phi i32 [ %v.26, %v.24 ], [ %v.30, %v.27 ]
-  %v.33 = trunc i32 %v.32 to i8
-  %v.34 = load i32, ptr %v.12, align 4
-  %v.35 = add nsw i32 %v.34, 1
-  store i32 %v.35, ptr %v.12, align 4
-  %v.36 = sext i32 %v.34 to i64
-  %v.37 = getelementptr inbounds [24 x i8], ptr %v.11, i64 0, i64 %v.36
-  store i8 %v.33, ptr %v.37, align 1
-  %v.38 = load i32, ptr %v.7, align 4
-  %v.39 = sext i32 %v.38 to i64
-  %v.40 = load i64, ptr %v.6, align 8
-  %v.41 = udiv i64 %v.40, %v.39
-  store i64 %v.41, ptr %v.6, align 8
-  br label %v.42
-v.42:
-  %v.43 = load i64, ptr %v.6, align 8
-  %v.44 = icmp ne i64 %v.43, 0
-  br i1 %v.44, label %v.16, label %v.45
-v.45:
-  %v.46 = load i32, ptr %v.8, align 4
-  %v.47 = icmp ne i32 %v.46, 0
-  br i1 %v.47, label %v.48, label %v.55
-v.48:
-  %v.49 = load i32, ptr %v.10, align 4
-  %v.50 = icmp eq i32 %v.49, 48
-  br i1 %v.50, label %v.51, label %v.55
-v.51:
-  %v.52 = call i32 @pg_print_char(i32 noundef 45)
-  %v.53 = load i32, ptr %v.13, align 4
-  %v.54 = add nsw i32 %v.53, %v.52
-  store i32 %v.54, ptr %v.13, align 4
-  br label %v.55
-v.55:
-  %v.56 = load i32, ptr %v.12, align 4
-  %v.57 = load i32, ptr %v.8, align 4
-  %v.58 = add nsw i32 %v.56, %v.57
-  store i32 %v.58, ptr %v.15, align 4
-  br label %v.59
-v.59:
-  %v.60 = load i32, ptr %v.15, align 4
-  %v.61 = load i32, ptr %v.9, align 4
-  %v.62 = icmp slt i32 %v.60, %v.61
-  br i1 %v.62, label %v.63, label %v.71
-v.63:
-  %v.64 = load i32, ptr %v.10, align 4
-  %v.65 = call i32 @pg_print_char(i32 noundef %v.64)
-  %v.66 = load i32, ptr %v.13, align 4
-  %v.67 = add nsw i32 %v.66, %v.65
-  store i32 %v.67, ptr %v.13, align 4
-  br label %v.68
-v.68:
-  %v.69 = load i32, ptr %v.15, align 4
-  %v.70 = add nsw i32 %v.69, 1
-  store i32 %v.70, ptr %v.15, align 4
-  br label %v.59
-v.71:
-  %v.72 = load i32, ptr %v.8, align 4
-  %v.73 = icmp ne i32 %v.72, 0
-  br i1 %v.73, label %v.74, label %v.81
-v.74:
-  %v.75 = load i32, ptr %v.10, align 4
-  %v.76 = icmp ne i32 %v.75, 48
-  br i1 %v.76, label %v.77, label %v.81
-v.77:
-  %v.78 = call i32 @pg_print_char(i32 noundef 45)
-  %v.79 = load i32, ptr %v.13, align 4
-  %v.80 = add nsw i32 %v.79, %v.78
-  store i32 %v.80, ptr %v.13, align 4
-  br label %v.81
-v.81:
-  br label %v.82
-v.82:
-  %v.83 = load i32, ptr %v.12, align 4
-  %v.84 = icmp ne i32 %v.83, 0
-  br i1 %v.84, label %v.85, label %v.95
-v.85:
-  %v.86 = load i32, ptr %v.12, align 4
-  %v.87 = add nsw i32 %v.86, -1
-  store i32 %v.87, ptr %v.12, align 4
-  %v.88 = sext i32 %v.87 to i64
-  %v.89 = getelementptr inbounds [24 x i8], ptr %v.11, i64 0, i64 %v.88
-  %v.90 = load i8, ptr %v.89, align 1
-  %v.91 = sext i8 %v.90 to i32
-  %v.92 = call i32 @pg_print_char(i32 noundef %v.91)
-  %v.93 = load i32, ptr %v.13, align 4
-  %v.94 = add nsw i32 %v.93, %v.92
-  store i32 %v.94, ptr %v.13, align 4
-  br label %v.82
-v.95:
-  %v.96 = load i32, ptr %v.13, align 4
-  ret i32 %v.96
-}
-
-define dso_local i32 @pg_print_char(i32 noundef %v.0) {
-v.1:
-  %v.2 = alloca i32, align 4
-  store i32 %v.0, ptr %v.2, align 4
-  %v.3 = load i32, ptr %v.2, align 4
-  %v.4 = call i32 @putchar(i32 noundef %v.3)
-  ret i32 1
 }
 
 define dso_local i32 @sem_init(ptr noundef %v.0, i32 noundef %v.1, i32 noundef %v.2) {
@@ -511,6 +334,8 @@ declare i32 @pthread_join(i64 noundef, ptr noundef) #1
 declare i32 @pthread_mutex_lock(ptr noundef) #2
 declare i64 @pg_in(i64 noundef) #1
 declare i32 @pthread_mutex_unlock(ptr noundef) #2
+declare void @pg_print(i64)
+declare void @pg_out(i64)
 declare i32 @putchar(i32 noundef)
 declare ptr @malloc(i64 noundef)
 declare i32 @pthread_mutex_init(ptr noundef, ptr noundef)

@@ -7,6 +7,7 @@
 int64_t pg_in(int64_t i);
 int64_t pg_in_len(void);
 void pg_out(int64_t v);
+void pg_print(int64_t v);
 int program(void);
 
 static int count;
@@ -17,6 +18,8 @@ int64_t pg_in(int64_t i) { return i >= 0 && i < count ? strtoll(words[i], NULL, 
 int64_t pg_in_len(void) { return count; }
 
 void pg_out(int64_t v) { printf("%" PRId64 "\n", v); }
+
+void pg_print(int64_t v) { printf("%" PRId64, v); }
 
 /* the example's own main, by the name that the build gives it */
 int main(int argc, char **argv) {

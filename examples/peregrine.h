@@ -13,4 +13,7 @@ int64_t pg_in_len(void);
 /* prints a number in decimal and a line feed, as one turn */
 void pg_out(int64_t value);
 
+/* prints a number in decimal and nothing behind it, as one turn */
+void pg_print(int64_t value);
+
 #endif

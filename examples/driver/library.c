@@ -1,10 +1,11 @@
 /* What C programs call and the accepted language doesn't have, in terms of what it has. The driver takes from
    library.ll, which a compiler made of this file, the functions that a program calls and doesn't define.
-   `putchar` prints a byte, and each byte is a turn of its own; a number by `pg_out` is one turn. */
+   `putchar` prints a byte, and each byte is a turn of its own; a number by `pg_out` or `pg_print` is one turn. */
 #include <stddef.h>
 #include <stdint.h>
 
 int putchar(int c);
+void pg_print(int64_t value);
 void *malloc(size_t n);
 typedef struct { uint64_t words[5]; } pthread_mutex_t;
 typedef struct { uint64_t words[6]; } pthread_cond_t;
@@ -55,6 +56,16 @@ int pg_print_unsigned(uint64_t n, int base, int negative, int width, int fill) {
 int pg_print_signed(int64_t n, int width, int fill) {
     return n < 0 ? pg_print_unsigned(0 - (uint64_t)n, 10, 1, width, fill)
                  : pg_print_unsigned((uint64_t)n, 10, 0, width, fill);
+}
+
+/* a number without a sign: one that is no signed number in two turns */
+void pg_print_natural(uint64_t n) {
+    if (n > INT64_MAX) {
+        pg_print((int64_t)(n / 10));
+        putchar((int)(n % 10) + '0');
+    } else {
+        pg_print((int64_t)n);
+    }
 }
 
 int puts(const char *s) {

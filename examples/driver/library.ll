@@ -249,6 +249,36 @@ define dso_local i32 @pg_print_signed(i64 noundef %0, i32 noundef %1, i32 nounde
 }
 
 ; Function Attrs: noinline nounwind optnone
+define dso_local void @pg_print_natural(i64 noundef %0) #0 {
+  %2 = alloca i64, align 8
+  store i64 %0, ptr %2, align 8
+  %3 = load i64, ptr %2, align 8
+  %4 = icmp ugt i64 %3, 9223372036854775807
+  br i1 %4, label %5, label %13
+
+5:                                                ; preds = %1
+  %6 = load i64, ptr %2, align 8
+  %7 = udiv i64 %6, 10
+  call void @pg_print(i64 noundef %7) #2
+  %8 = load i64, ptr %2, align 8
+  %9 = urem i64 %8, 10
+  %10 = trunc i64 %9 to i32
+  %11 = add nsw i32 %10, 48
+  %12 = call i32 @putchar(i32 noundef %11) #2
+  br label %15
+
+13:                                               ; preds = %1
+  %14 = load i64, ptr %2, align 8
+  call void @pg_print(i64 noundef %14) #2
+  br label %15
+
+15:                                               ; preds = %13, %5
+  ret void
+}
+
+declare void @pg_print(i64 noundef) #1
+
+; Function Attrs: noinline nounwind optnone
 define dso_local i32 @puts(ptr noundef %0) #0 {
   %2 = alloca ptr, align 8
   store ptr %0, ptr %2, align 8

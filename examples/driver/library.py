@@ -7,7 +7,7 @@ from module import Call, Refused, is_call, module_of, name_in
 
 HERE = os.path.dirname(os.path.abspath(__file__))
 # what the accepted language knows by itself
-KNOWN = {"pg_in", "pg_in_len", "pg_out", "putchar", "malloc", "free", "pthread_create", "pthread_join", "pthread_exit"}
+KNOWN = {"pg_in", "pg_in_len", "pg_out", "pg_print", "putchar", "malloc", "free", "pthread_create", "pthread_join", "pthread_exit"}
 KNOWN |= {f"pthread_mutex_{it}" for it in ("init", "lock", "trylock", "unlock", "destroy")}
 KNOWN |= {f"pthread_cond_{it}" for it in ("init", "wait", "signal", "broadcast", "destroy")}
 KNOWN |= {f"pthread_barrier_{it}" for it in ("init", "wait", "destroy")}
@@ -75,10 +75,10 @@ CURES = {
     "fgets": "a program's input is numbers: take pg_in(i) and pg_in_len()",
     "getchar": "a program's input is numbers: take pg_in(i) and pg_in_len()",
     "fopen": "files are left out",
-    "fprintf": "print by printf, puts or pg_out: there is one output",
-    "fputs": "print by printf, puts or pg_out: there is one output",
-    "stderr": "print by printf, puts or pg_out: there is one output",
-    "stdout": "print by printf, puts or pg_out: there is one output",
+    "fprintf": "print by printf, puts, pg_out or pg_print: there is one output",
+    "fputs": "print by printf, puts, pg_out or pg_print: there is one output",
+    "stderr": "print by printf, puts, pg_out or pg_print: there is one output",
+    "stdout": "print by printf, puts, pg_out or pg_print: there is one output",
     "time": "time is left out: hand it in as a number of the input",
     "clock_gettime": "time is left out: hand it in as a number of the input",
     "gettimeofday": "time is left out: hand it in as a number of the input",

@@ -18,7 +18,7 @@ EVENTS = {
     "pthread_cond_init": ["cond-init"], "pthread_cond_wait": ["wait", "wake"], "pthread_cond_signal": ["signal"],
     "pthread_cond_broadcast": ["broadcast"], "pthread_cond_destroy": ["cond-destroy"],
     "pthread_barrier_init": ["barrier-init"], "pthread_barrier_wait": ["arrive", "leave"],
-    "pthread_barrier_destroy": ["barrier-destroy"], "pg_out": ["out"], "putchar": ["putchar"],
+    "pthread_barrier_destroy": ["barrier-destroy"], "pg_out": ["out"], "pg_print": ["out"], "putchar": ["putchar"],
 }
 SIZES = {"i1": 1, "i8": 1, "i16": 2, "i32": 4, "i64": 8, "ptr": 8}
 # granules of 8 bytes; those of a thread's stack and heap begin here, and have this many

@@ -1,6 +1,6 @@
 #!/usr/bin/env python3
-"""Makes checks.txt and the end of ../stdout, from its line `checks.txt` on. It knows no rule of the checks: the refusals are
-marked by hand.
+"""Makes checks.txt and the part of ../stdout from its line `checks.txt` to the rows of sessions.txt. It knows no rule of the checks:
+the refusals are marked by hand.
 
 A line of marked_checks.txt that isn't empty and doesn't begin with # has what is wanted, a colon, and a text in which ⏎ stands
 for a line feed. Where the text is refused, the kind of its refusal is wanted, and ¦ stands before the refused token, for
@@ -43,8 +43,9 @@ def main():
             texts.append(text + '\n')
             answers.append(f'{answer(wanted, marked)}: {text}\n')
     open('checks.txt', 'w').write(''.join(texts))
-    rows = open('../stdout').read().split('checks.txt\n')[0]
-    open('../stdout', 'w').write(rows + ''.join(answers))
+    written, first = open('../stdout').read(), open('sessions.txt').readline().rstrip('\n')
+    rows, sessions = written[:written.index('checks.txt\n')], written[written.index(f'{first}: '):]
+    open('../stdout', 'w').write(rows + ''.join(answers) + sessions)
 
 
 main()

@@ -1,6 +1,7 @@
 declare i64 @pg_in(i64)
 declare i64 @pg_in_len()
 declare void @pg_out(i64)
+declare void @pg_print(i64)
 declare i32 @putchar(i32)
 declare ptr @malloc(i64)
 declare void @free(ptr)
