@@ -87,7 +87,8 @@ module _ (program : NumberedProgram) (x : Step) (xs : List Step) (numbers : ℕ 
   silent None e t n p = ap (λ (l : List ℕ). l ++ output_of program xs) t ∙ more numbers (λ i. h i ∙ silent_numbers i x xs n)
       ∙ ap (λ (o : Option Turn). output_along program (cons_option o (events xs)) numbers) (sym e)
   silent (Some u) e t n p = ap (λ (l : List ℕ). l ++ output_of program xs) t ∙ more numbers (λ i. h i ∙ silent_numbers i x xs n)
-      ∙ ap (λ (b : Bool). if b then text_of (slice_get program.instrs u.instr.0) u.kind (slice_index (numbers u.thread.0) 0) ++ output_along program (events xs) (without_first u.thread.0 numbers) else output_along program (events xs) numbers)
+      ∙ ap (λ (b : Bool). if b then text_of (slice_get program.instrs u.instr.0) u.kind (slice_index (numbers u.thread.0) 0) ++ output_along program (events xs) (without_first u.thread.0 numbers)
+      else output_along program (events xs) numbers)
       (sym (p u refl))
       ∙ ap (λ (o : Option Turn). output_along program (cons_option o (events xs)) numbers) (sym e)
 
@@ -108,7 +109,8 @@ module _ (program : NumberedProgram) (x : Step) (xs : List Step) (numbers : ℕ 
     print kind object p t e =
         ap (λ (l : List ℕ). l ++ output_of program xs) t ∙ ap (λ (l : List ℕ). text_of present kind n ++ l) (more (without_first x.thread.0 numbers) later)
         ∙ ap (λ (l : List ℕ). text_of present kind (slice_index l 0) ++ output_along program (events xs) (without_first x.thread.0 numbers)) (sym own)
-        ∙ ap (λ (b : Bool). if b then text_of present kind (slice_index (numbers x.thread.0) 0) ++ output_along program (events xs) (without_first x.thread.0 numbers) else output_along program (events xs) numbers) (sym p)
+        ∙ ap (λ (b : Bool). if b then text_of present kind (slice_index (numbers x.thread.0) 0) ++ output_along program (events xs) (without_first x.thread.0 numbers)
+        else output_along program (events xs) numbers) (sym p)
         ∙ ap (λ (o : Option Turn). output_along program (cons_option o (events xs)) numbers) (sym e)
 
   by_event : (v : Event) → x.kind ≡ told.Event v → (b : Bool) → is_print v.kind ≡ b → output_of program (x ∷ xs) ≡ output_along program (events (x ∷ xs)) numbers

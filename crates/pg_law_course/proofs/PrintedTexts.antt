@@ -60,15 +60,15 @@ module _ (gated : List InstrId) (p : NumberedProgram) (program : IsProgram p) (s
   printed action = printed_with (request_effect p s t action) []
 
   -- the present instruction
-  abbrev at_present : Option Instr
-  at_present = slice_get p.instrs (id_of l)
+  abbrev here : Option Instr
+  here = slice_get p.instrs (id_of l)
 
   abbrev Tells : Action → StepKind → Type 0
-  Tells action k = (text_told at_present k ≡ printed action) × (number_told k ≡ number_printed action)
+  Tells action k = (text_told here k ≡ printed action) × (number_told k ≡ number_printed action)
 
   told_request : (answer number : ℕ) (r : Request) → next p l ≡ actions.Event r → Tells (actions.Event r) (kind_told gated p s t (operand_values p l) answer number (actions.Event r))
   told_request answer number (requests.Out n b) e = let k = printed_out p l n b program e in (
-    ap (λ (m : ℕ). printed_by (requests.Out m (ends_line at_present))) k.0 ∙ ap (λ (line : Bool). printed_by (requests.Out n line)) k.1,
+    ap (λ (m : ℕ). printed_by (requests.Out m (ends_line here))) k.0 ∙ ap (λ (line : Bool). printed_by (requests.Out n line)) k.1,
     ap (λ (m : ℕ). Some m) k.0,
   )
   told_request answer number (requests.Putchar n) e = let k = printed_char p l n program e in (ap (λ (m : ℕ). printed_by (requests.Putchar m)) k, ap (λ (m : ℕ). Some m) k)
@@ -76,7 +76,7 @@ module _ (gated : List InstrId) (p : NumberedProgram) (program : IsProgram p) (s
 
   told_by : (answer number : ℕ) (action : Action) → next p l ≡ action → Tells action (kind_told gated p s t (operand_values p l) answer number action)
   unfolding IsSilent
-  told_by answer number actions.Local e = silent_instr at_present (operand_values p l) number (slice_get p.instrs (instr_of s t))
+  told_by answer number actions.Local e = silent_instr here (operand_values p l) number (slice_get p.instrs (instr_of s t))
   told_by answer number (actions.Event r) e = told_request answer number r e
   told_by answer number action e = (refl, refl)
 
@@ -84,7 +84,7 @@ module _ (gated : List InstrId) (p : NumberedProgram) (input : List ℤ) (progra
   pub step_tells : (s : State) (x : Step) (l : LocalState) → Takes gated p input s x → slice_get s.locals x.thread.0 ≡ Some l
       → (text_told (slice_get p.instrs x.instr.0) x.kind ≡ printed_with (request_effect p s x.thread.0 (next_of p s x.thread.0)) []) × (number_told x.kind ≡ number_printed (next p l))
   step_tells s x l h made =
-      let present : x.instr.0 ≡ id_of l = ap (λ (y : Step). y.instr.0) (told_answer gated p input s h.after x.thread.0 x h.is_step) ∙ instr_is s x.thread.0 l made in
+      let at_present : x.instr.0 ≡ id_of l = ap (λ (y : Step). y.instr.0) (told_answer gated p input s h.after x.thread.0 x h.is_step) ∙ instr_is s x.thread.0 l made in
       let action : next_of p s x.thread.0 ≡ next p l = next_is p s x.thread.0 l made in
       let kind : x.kind ≡ kind_told gated p s x.thread.0 (operands_in p (slice_get s.locals x.thread.0)) (answer_to input s x.thread.0 (next_of p s x.thread.0))
       (number_in p (slice_get s.locals x.thread.0) (answer_to input s x.thread.0 (next_of p s x.thread.0))) (next_of p s x.thread.0) =
@@ -96,8 +96,11 @@ module _ (gated : List InstrId) (p : NumberedProgram) (input : List ℤ) (progra
       ∙ ap (kind_told gated p s x.thread.0 (operand_values p l) (answer_to input s x.thread.0 (next_of p s x.thread.0))
       (number_in p (slice_get s.locals x.thread.0) (answer_to input s x.thread.0 (next_of p s x.thread.0)))) action in
       let k = told_by gated p program s x.thread.0 l (answer_to input s x.thread.0 (next_of p s x.thread.0))
-      (number_in p (slice_get s.locals x.thread.0) (answer_to input s x.thread.0 (next_of p s x.thread.0))) (next p l) refl in
-      (ap (λ (i : ℕ). text_told (slice_get p.instrs i) x.kind) present ∙ ap (text_told (slice_get p.instrs (id_of l))) kind_now ∙ k.0 ∙ ap (λ (a : Action). printed_with (request_effect p s x.thread.0 a) []) (sym action), ap number_told kind_now ∙ k.1)
+      (number_in p (slice_get s.locals x.thread.0) (answer_to input s x.thread.0 (next_of p s x.thread.0))) (next p l) refl in (
+        ap (λ (i : ℕ). text_told (slice_get p.instrs i) x.kind) at_present ∙ ap (text_told (slice_get p.instrs (id_of l))) kind_now ∙ k.0
+            ∙ ap (λ (a : Action). printed_with (request_effect p s x.thread.0 a) []) (sym action),
+        ap number_told kind_now ∙ k.1,
+      )
 
   more_printed : (s : State) (t : ℕ) (action : Action) → printed_with (request_effect p s t action) s.printed ≡ s.printed ++ printed_with (request_effect p s t action) []
   more_printed s t (actions.Event r) = refl

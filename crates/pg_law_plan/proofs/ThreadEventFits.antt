@@ -230,11 +230,13 @@ module _ (r : ReferenceRun) (d : Taken) (input : List ℤ) (program : IsProgram 
 
   pub out_fits : (args : List Value) → q.both.x.op ≡ op.CallLibrary known.PgOut args → Fits (like input) (deed_of d u) (deed_moved r.program input st moves y)
   out_fits args e = let o = op.CallLibrary known.PgOut args in
-      number_fits known.PgOut true args e (shape_out q.both.h) (act0_at r d input u st moves y q o e) (can0_at r d input u st moves y q o e) (act_at r d input u st moves y q o e) (can_at r d input u st moves y q o e)
+      number_fits known.PgOut true args e (shape_out q.both.h) (act0_at r d input u st moves y q o e) (can0_at r d input u st moves y q o e)
+      (act_at r d input u st moves y q o e) (can_at r d input u st moves y q o e)
 
   pub print_fits : (args : List Value) → q.both.x.op ≡ op.CallLibrary known.PgPrint args → Fits (like input) (deed_of d u) (deed_moved r.program input st moves y)
   print_fits args e = let o = op.CallLibrary known.PgPrint args in
-      number_fits known.PgPrint false args e (shape_print q.both.h) (act0_at r d input u st moves y q o e) (can0_at r d input u st moves y q o e) (act_at r d input u st moves y q o e) (can_at r d input u st moves y q o e)
+      number_fits known.PgPrint false args e (shape_print q.both.h) (act0_at r d input u st moves y q o e) (can0_at r d input u st moves y q o e)
+      (act_at r d input u st moves y q o e) (can_at r d input u st moves y q o e)
 
   putchar_done : (s : sync.Sync) (t n : ℕ) → (sync.done s t (requests.Putchar n)).1.value ≡ n % 256
   unfolding sync.done

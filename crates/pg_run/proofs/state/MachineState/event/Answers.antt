@@ -7,7 +7,8 @@ use Rattle.pg_run.proofs.state.MachineState.event.Goals as goal
 pub returns-in_ok-print-in-Out-clause-answer : goal.returns-in_ok-print-in-Out-clause-answer
 returns-in_ok-print-in-Out-clause-answer c =
     let text : c.as_bytes.result.now ≡ printed_by (requests.Out c.in-Out.value c.in-Out.ends_line) = search rules in
-    c.settle.ensures ∙ out_first c.args.p.now c.args.self.now c.print.new.self c.args.t.0 c.in-Out.value c.in-Out.ends_line c.args.r.now c.as_bytes.result.now c.in-Out.is text c.in_ok-print-in-Out.ensures.printed
+    c.settle.ensures ∙ out_first c.args.p.now c.args.self.now c.print.new.self c.args.t.0 c.in-Out.value c.in-Out.ends_line c.args.r.now c.as_bytes.result.now c.in-Out.is text
+    c.in_ok-print-in-Out.ensures.printed
 
 pub returns-in_ok-print-in-Putchar-clause-answer : goal.returns-in_ok-print-in-Putchar-clause-answer
 returns-in_ok-print-in-Putchar-clause-answer c =
