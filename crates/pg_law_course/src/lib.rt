@@ -106,7 +106,7 @@ pub fn a_thread_rests_where_the_run_ends()
 {}
 
 /// A good run prints what its steps tell that they print, one after another; so turn by turn it prints the next number of the turn's
-/// thread. The main thread's word is what its own steps leave of it.
+/// thread, in the form of the turn's instruction. The main thread's word is what its own steps leave of it.
 pub fn what_a_run_prints_and_exits_with()
     ensures output { (p : NumberedProgram) (input : List ℤ) (s : Schedule) → CanRun p input → IsGoodRun p input s
         → (run_along p input s).state.printed ≡ output_of p (run_along p input s).trace }
