@@ -38,8 +38,11 @@ fn number_text(alloc: Global, value: u64, ends_line: bool) -> Result<String, All
     ensures { IfOk result (λ text. string_bytes text ≡ printed_by (requests.Out value ends_line)) }
 {
     let number = to_signed(Width::W64, value);
-    let line_end = if ends_line { "\n" } else { "" };
-    format!(in alloc; "{number}{line_end}")
+    if ends_line {
+        format!(in alloc; "{number}\n")
+    } else {
+        format!(in alloc; "{number}")
+    }
 }
 
 impl MachineState {
