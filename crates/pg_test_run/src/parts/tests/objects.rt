@@ -265,6 +265,13 @@ fn exit(is_return: bool) -> Request {
     }
 }
 
+fn print(ends_line: bool) -> Request {
+    Request::Out {
+        value: 7,
+        ends_line,
+    }
+}
+
 #[test]
 fn threads(rt: HostRuntime) -> Result<(), Fail> {
     let mut state = begun(rt.alloc(), 1)?;
@@ -286,14 +293,8 @@ fn threads(rt: HostRuntime) -> Result<(), Fail> {
         (1, exit(true), Misplaced),
         (0, join(1), Joins(1)),
         (0, join(1), Traps(TrapName::BadJoin)),
-        (
-            0,
-            Request::Out {
-                value: 7,
-                ends_line: true,
-            },
-            Says(0),
-        ),
+        (0, print(true), Says(0)),
+        (0, print(false), Says(0)),
         (0, Request::Putchar { value: 0x141 }, Says(0x41)),
     ];
     assert_eq!(rt; first_difference(&mut state, &rows), None);
