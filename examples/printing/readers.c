@@ -9,8 +9,9 @@ static long number;
 static int64_t round_number;
 static int readers_left;
 
-static void *reader(void *name) {
+static void *reader(void *of) {
     long sum = 0;
+    (void)of;
     for (int64_t round = 1; round <= pg_in_len(); round++) {
         pthread_mutex_lock(&lock);
         while (round_number < round)
@@ -21,14 +22,13 @@ static void *reader(void *name) {
             pthread_cond_signal(&read_by_all);
         pthread_mutex_unlock(&lock);
     }
-    printf("reader %d read %ld\n", (int)(long)name, sum);
-    return NULL;
+    return (void *)sum;
 }
 
 int main(void) {
     pthread_t readers[2];
-    for (long i = 0; i < 2; i++)
-        pthread_create(&readers[i], NULL, reader, (void *)i);
+    for (int i = 0; i < 2; i++)
+        pthread_create(&readers[i], NULL, reader, NULL);
     for (int64_t i = 0; i < pg_in_len(); i++) {
         pthread_mutex_lock(&lock);
         number = pg_in(i);
@@ -39,7 +39,10 @@ int main(void) {
             pthread_cond_wait(&read_by_all, &lock);
         pthread_mutex_unlock(&lock);
     }
-    for (int i = 0; i < 2; i++)
-        pthread_join(readers[i], NULL);
+    for (int i = 0; i < 2; i++) {
+        void *sum;
+        pthread_join(readers[i], &sum);
+        printf("reader %d read %ld\n", i, (long)sum);
+    }
     return 0;
 }
