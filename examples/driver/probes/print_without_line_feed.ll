@@ -15,8 +15,8 @@ define dso_local i32 @main() #0 {
   %6 = call i32 @putchar(i32 noundef 61)
   call void @pg_print(i64 noundef -3)
   %7 = call i32 @putchar(i32 noundef 10)
-  call void @pg_out(i64 noundef -9223372036854775808)
-  call void @pg_print(i64 noundef 9223372036854775807)
+  call void @pg_print(i64 noundef -9223372036854775808)
+  call void @pg_out(i64 noundef 9223372036854775807)
   ret i32 0
 }
 

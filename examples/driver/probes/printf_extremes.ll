@@ -5,7 +5,7 @@ target triple = "x86_64-pc-linux-gnu"
 
 @.str = private unnamed_addr constant [10 x i8] c"%d %i %u\0A\00", align 1
 @.str.1 = private unnamed_addr constant [13 x i8] c"%ld\0A%lu %lu\0A\00", align 1
-@.str.2 = private unnamed_addr constant [18 x i8] c"%hhd %hd %hhu %hu\00", align 1
+@.str.2 = private unnamed_addr constant [19 x i8] c"%hhd %hd %hhu %hu\0A\00", align 1
 
 ; Function Attrs: noinline nounwind optnone uwtable
 define dso_local i32 @main() #0 {
