@@ -1,5 +1,5 @@
 -- What a print writes.
-use Rattle.std.specs.Prelude.{ℕ, ◌%◌, ◌++◌, List, [], ◌∷◌, if◌then◌else◌}
+use Rattle.std.specs.Prelude.{ℕ, ◌%◌, ◌++◌, List, [], ◌∷◌, true, false}
 use Rattle.std.specs.Fmt.{signed_decimal}
 use Rattle.pg_num.specs.Numbers.{signed}
 use Rattle.pg_num.specs.declared.width.Width.TheVariants.{W64}
@@ -8,6 +8,7 @@ use Rattle.pg_ir.specs.declared.request.Request.TheVariants as requests
 
 -- a number in signed decimal, with a line feed where it ends its line, or the low byte
 abbrev pub printed_by : Request → List ℕ
-printed_by (requests.Out n ends_line) = signed_decimal (signed W64 n) ++ (if ends_line then 10 ∷ [] else [])
+printed_by (requests.Out n true) = signed_decimal (signed W64 n) ++ 10 ∷ []
+printed_by (requests.Out n false) = signed_decimal (signed W64 n)
 printed_by (requests.Putchar n) = n % 256 ∷ []
 printed_by r = []
