@@ -29,15 +29,20 @@ module _ (p : NumberedProgram) (program : IsProgram p) (gated : ℕ → Bool) (s
 
   one_below : (n f : ℕ) → f < length p.functions → (reach_at (reaches p program gated) f).size < n → s f ≡ t f
   one_below zero f lt less = absurd (omega (arith, less))
-  one_below (suc n) f lt less = by_both (s f) (t f) refl refl
+  one_below (suc n) f lt less = by_both (λ g small h. one_below n g small h) (s f) (t f) refl refl
     where
-      quiet : CanBeQuiet p f → s f ≡ t f
-      quiet can = first.quiet f lt can ∙ summary_same p gated s t f program (λ g c. one_below n g (callee_small p f g program c) (omega (arith, calls_fewer f g lt can c, less))) ∙ sym (second.quiet f lt can)
+      Below : Type 0
+      Below = (g : ℕ) → g < length p.functions → (reach_at (reaches p program gated) g).size < n → s g ≡ t g
 
-      by_both : (a b : Option RootedList) → s f ≡ a → t f ≡ b → s f ≡ t f
-      by_both None None e i = e ∙ sym i
-      by_both (Some xs) b e i = quiet (first.others f xs lt e)
-      by_both None (Some xs) e i = quiet (second.others f xs lt i)
+      quiet : Below → CanBeQuiet p f → s f ≡ t f
+      quiet below can = first.quiet f lt can
+          ∙ summary_same p gated s t f program (λ g c. let small = callee_small p f g program c in below g small (omega (arith, calls_fewer f g lt can c, less)))
+          ∙ sym (second.quiet f lt can)
+
+      by_both : Below → (a b : Option RootedList) → s f ≡ a → t f ≡ b → s f ≡ t f
+      by_both below None None e i = e ∙ sym i
+      by_both below (Some xs) b e i = quiet below (first.others f xs lt e)
+      by_both below None (Some xs) e i = quiet below (second.others f xs lt i)
 
   -- each function has one summary
   pub one_summary : (f : ℕ) → f < length p.functions → s f ≡ t f
