@@ -61,14 +61,14 @@ module _ (p : NumberedProgram) (program : IsProgram p) (gated : ℕ → Bool) wh
   unfolding reach_of
   reach_is f = record { reached = (reached f).0; reach = (reached f).1; size = refl; recursive = has_exact (reached f).0 f }
 
-  reaches : List Reach
+  pub reaches : List Reach
   reaches = table reach_of (length p.functions)
 
   reach_there : (f : ℕ) → f < length p.functions → reach_at reaches f ≡ reach_of f
   unfolding reaches
   reach_there f lt = table_at reach_of (record { size = 0; is_recursive = false }) (length p.functions) f lt
 
-  are_reaches : AreReaches (calls_of p) (length p.functions) reaches
+  pub are_reaches : AreReaches (calls_of p) (length p.functions) reaches
   are_reaches f lt = subst (λ (r : Reach). IsReachOf (calls_of p) f r) (sym (reach_there f lt)) (reach_is f)
 
   reach_small : (f : ℕ) → f < length p.functions → (reach_at reaches f).size < suc (length p.functions)

@@ -25,6 +25,12 @@ pub fn summaries_exist()
     ensures { (p : NumberedProgram) (gated : ℕ → Bool) → IsProgram p → (sums : ℕ → Option RootedList) × AreSummaries p gated sums }
 {}
 
+/// Each function of a program has one summary.
+pub fn a_function_has_one_summary()
+    ensures { (p : NumberedProgram) (gated : ℕ → Bool) (sums others : ℕ → Option RootedList) → IsProgram p → AreSummaries p gated sums → AreSummaries p gated others
+        → (f : ℕ) → f < length p.functions → sums f ≡ others f }
+{}
+
 /// By the summaries of a program's functions, the branch at the end of each block has its region, or has none.
 pub fn a_branch_has_its_region()
     ensures { (p : NumberedProgram) (gated : ℕ → Bool) (sums : ℕ → Option RootedList) → IsProgram p → AreSummaries p gated sums → (c : ℕ)

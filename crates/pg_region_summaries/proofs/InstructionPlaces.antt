@@ -59,6 +59,13 @@ in_block p f b k x program c e = go (slice_get p.blocks b) refl e
         let s : x.block.0 ≡ b = stands_in p b (y.first.0 + k) y x (program.blocks b y q) (omega arith) (omega (arith, r.0)) at in
         (at, ap (function_of p) s ∙ (only_blocks p f b c).1)
 
+-- an instruction of any block
+pub in_any_block : (p : NumberedProgram) (b k : ℕ) (x : Instr) → slice_get (instrs_of p b) k ≡ Some x → (i : ℕ) × (slice_get p.instrs i ≡ Some x)
+unfolding instrs_of
+in_any_block p b k x e =
+    let r = get_taken (drop (first_of p b) p.instrs) (end_of p b - first_of p b) k x e in
+    (first_of p b + k, sym (get_rest p.instrs (first_of p b) k) ∙ r.1)
+
 -- an instruction in its block
 pub stands : (p : NumberedProgram) (i : ℕ) (x : Instr) → IsProgram p → slice_get p.instrs i ≡ Some x
     → (k : ℕ) × (first_of p x.block.0 + k ≡ i) × (slice_get (instrs_of p x.block.0) k ≡ Some x)

@@ -1,5 +1,5 @@
 -- A function's summary hangs on the summaries of the functions that it calls alone, and all of these have one where it does.
-use Rattle.std.proofs.Common.{◌≡◌, ℕ, suc, ◌+◌, Bool, true, List, [], ◌∷◌, Option, Some, None, refl, sym, ap, ◌∙◌, subst}
+use Rattle.std.proofs.Common.{◌≡◌, ℕ, suc, ◌+◌, ◌<◌, Bool, true, List, [], ◌∷◌, length, Option, Some, None, refl, sym, ap, ◌∙◌, subst}
 use Rattle.std.specs.Prelude.{Contains, slice_get}
 use Rattle.pg_ir.specs.declared.value.Scalar.{Scalar}
 use Rattle.pg_ir.specs.declared.instr.Instr.{Instr}
@@ -17,7 +17,7 @@ use Rattle.pg_region_accesses.proofs.QuietInstructions.{set_quiet}
 use Rattle.pg_region_summaries.specs.Blocks.{blocks_of}
 use Rattle.pg_region_summaries.specs.Calls.{Calls, IsCallOf}
 use Rattle.pg_region_summaries.specs.Summaries.{seen_by_callers, summary_by}
-use Rattle.pg_region_summaries.proofs.InstructionPlaces.{in_block, stands, own_block}
+use Rattle.pg_region_summaries.proofs.InstructionPlaces.{callee_small, in_any_block, in_block, stands, own_block}
 
 module _ (m : Bool) (gated : ℕ → Bool) (s s' : ℕ → Option RootedList) where
   op_same : (f : ℕ → Option Path) (i : ℕ) (o : Op) → ((g : ℕ) → IsCallOf g o → s g ≡ s' g) → op_accesses m gated s f i o ≡ op_accesses m gated s' f i o
@@ -46,6 +46,16 @@ gathered_same f f' (x ∷ xs) h =
     let a : f x ≡ f' x = h x (here x xs) in
     let b : gathered f xs ≡ gathered f' xs = gathered_same f f' xs (λ z c. h z (there x xs z c)) in
     rw (a, b) refl
+
+-- tables that agree on the functions of the program give blocks the same accesses
+pub blocks_same : (m : Bool) (p : NumberedProgram) (gated : ℕ → Bool) (s s' : ℕ → Option RootedList) (bs : List ℕ) → IsProgram p
+    → ((g : ℕ) → g < length p.functions → s g ≡ s' g) → set_accesses m p gated s bs ≡ set_accesses m p gated s' bs
+blocks_same m p gated s s' bs program h = gathered_same (block_accesses m p gated s (sets p bs)) (block_accesses m p gated s' (sets p bs)) bs (λ b c. block_same m gated s s' p (sets p bs) b (called b))
+  where
+    called : (b k : ℕ) (x : Instr) → slice_get (instrs_of p b) k ≡ Some x → (g : ℕ) → IsCallOf g x.op → s g ≡ s' g
+    called b k x e g call =
+        let at = in_any_block p b k x e in
+        h g (callee_small p (function_of p x.block.0) g program (record { at = at.0; instr = x; is = at.1; within = refl; call = call }))
 
 -- the same summaries of callees give the same summary
 pub summary_same : (p : NumberedProgram) (gated : ℕ → Bool) (s s' : ℕ → Option RootedList) (f : ℕ) → IsProgram p → ((g : ℕ) → Calls p f g → s g ≡ s' g)

@@ -95,3 +95,12 @@ pub record IsEntryOfTurns (p : NumberedProgram) (input : List ℤ) (turns : List
   pub replies : e.schedule.replies ≡ filter_map (λ (x : Step). reply_in x.kind) steps
   pub races : e.races ≡ races_of steps
   pub ordered : first_unordered steps ≡ None
+
+-- ---- entries of one run
+
+-- two entries have the same turns, replies and races, and admit the same inputs
+pub record AreAlike (e k : EntryParts) : Type 0 where
+  pub input : e.input ≡ k.input
+  pub schedule : e.schedule ≡ k.schedule
+  pub races : e.races ≡ k.races
+  pub admitted : (input : List ℤ) → is_admitted input e.precondition ≡ is_admitted input k.precondition

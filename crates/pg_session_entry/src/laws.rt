@@ -14,7 +14,7 @@ ghost use Rattle.pg_run.specs.State.{State, exit_value_of};
 ghost use Rattle.pg_slice_rules.specs.Known.{Taken};
 ghost use Rattle.pg_law_runs.specs.Cuts.{CanRun};
 ghost use Rattle.pg_law_runs.specs.LastTurns.{IsRecorded};
-ghost use Rattle.pg_session_entry.specs.Entries.{IsSliced};
+ghost use Rattle.pg_session_entry.specs.Entries.{AreAlike, EntryParts, IsEntry, IsSliced};
 
 use pg_law_order::permitted_runs::a_permitted_run_goes_on;
 use pg_law_order::recorded::{
@@ -52,3 +52,9 @@ pub fn the_own_input_is_admitted()
     a_reference_run_admits_its_own_input();
     regions_exist();
 }
+
+/// Two entries of one run have the same turns, replies and races, and admit the same inputs.
+pub fn entries_of_one_run_are_alike()
+    ensures { (p : NumberedProgram) (input : List ℤ) (xs : List Step) (z : State) (e k : EntryParts) → CanRun p input
+        → IsEntry p input xs z e → IsEntry p input xs z k → AreAlike e k }
+{}
