@@ -8,9 +8,10 @@ padding comes in. `@n = global i64 ptrtoint (ptr @x to i64)` holds a pointer's w
 import re
 
 from layout import as_plain
-from module import Refused, closing, split
+from module import Refused, closing, refusals_at, split, without_names
 
-EXPRESSION = re.compile(r"\b(ptrtoint|sub|add|mul|icmp|trunc|zext|sext|and|or|xor|shl|lshr|ashr|bitcast|addrspacecast|select)\s*((?:nuw |nsw |exact |eq |ne |ult |ugt |ule |uge |slt |sgt |sle |sge )*)\(")
+# none behind the sign of a name: a function may be called so in C
+EXPRESSION = re.compile(r"(?<![%@\w$.-])(ptrtoint|sub|add|mul|icmp|trunc|zext|sext|and|or|xor|shl|lshr|ashr|bitcast|addrspacecast|select)\s*((?:nuw |nsw |exact |eq |ne |ult |ugt |ule |uge |slt |sgt |sle |sge )*)\(")
 
 
 def outside_strings(line, change):
@@ -34,6 +35,7 @@ def check_packed(module, line):
 
 def is_type(text):
     """A packed structure's type, and no value of one: no field has a value."""
+    text = without_names(text)
     first = split(text[2:-2])[0] if split(text[2:-2]) else ""
     return bool(re.fullmatch(r"i\d+|ptr|\[.*\]|%[-\w$.]+|\{.*\}|<\{.*\}>", first)) and not re.search(r"zeroinitializer|\bi\d+ -?\d|\bnull\b|@", text)
 
@@ -53,18 +55,20 @@ def word_global(line):
 
 def rewrite_globals(module):
     """Globals that are declared and not defined, aliases and thread-local ones are refused by the program itself."""
-    module.types = [unpacked(module, line) for line in module.types]
-    module.globals = [word_global(unpacked(module, line)) for line in module.globals]
+    for lines in (module.types, module.globals):
+        for i, line in enumerate(lines):
+            with refusals_at(line):
+                lines[i] = word_global(unpacked(module, line))
     for line in module.globals:
         if EXPRESSION.search(re.sub(r'"[^"]*"', "", line)):
-            raise Refused(f"the initial value of {line.split(' ')[0]} is computed from addresses: set it at the start of main")
+            raise Refused(f"the initial value of {line.split(' ')[0][1:]} is computed from addresses: set it at the start of main", line)
 
 
 class Lines:
-    """Puts the expressions of one function into lines of their own."""
+    """Puts expressions into lines of their own, each with a register of its own name."""
 
-    def __init__(self, module):
-        self.module, self.count = module, 0
+    def __init__(self):
+        self.count = 0
 
     def taken(self, line):
         """The lines that compute the expressions of a line, innermost first, and the line with their names."""
@@ -102,15 +106,15 @@ def instruction(name, flags, inside):
 
 
 def rewrite_functions(module):
-    for function in module.functions:
-        lines, result = Lines(module), []
-        for line in function.lines:
-            line = unpacked(module, line)
-            if not EXPRESSION.search(line):
-                result.append(line)
-                continue
-            before, line = lines.taken(line)
-            if before and re.match(r"\s*%\S+ = phi ", line):
-                raise Refused("an address is computed in a phi: compile with -O0")
-            result += [*before, line]
-        function.lines = result
+    lines = Lines()
+
+    def change(_, line):
+        line = unpacked(module, line)
+        if not EXPRESSION.search(line):
+            return [line]
+        before, line = lines.taken(line)
+        if before and re.match(r"\s*%\S+ = phi ", line):
+            raise Refused("an address is computed in a phi: compile with -O0")
+        return [*before, line]
+
+    module.change_lines(change)
