@@ -56,6 +56,7 @@ impl Runner for Sums {
       recorded = λ _ _ _ _. Unit {0};
       refused = λ _ _ _. Unit {0};
       along = λ _ _ _ _. Unit {0};
+      given = λ _. ⊥;
     } };
 
     fn record(&mut self, alloc: Global, input: &[i64]) -> Result<Recording<Length>, AllocError> {
