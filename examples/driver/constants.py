@@ -22,6 +22,11 @@ def outside_strings(line, change):
     return "".join(parts)
 
 
+def without_texts(line):
+    """A line of the same length with nothing in its strings."""
+    return re.sub(r'"[^"]*"', lambda it: "_" * len(it[0]), line)
+
+
 def check_packed(module, line):
     """Each packed structure's type of a line has a plain form."""
     at = line.find("<{")
@@ -41,9 +46,9 @@ def is_type(text):
 
 
 def unpacked(module, line):
-    if "<{" not in line:
+    if "<{" not in without_texts(line):
         return line
-    check_packed(module, line)
+    check_packed(module, without_texts(line))
     return outside_strings(line, lambda part: part.replace("<{", "{").replace("}>", "}"))
 
 
@@ -54,13 +59,14 @@ def word_global(line):
 
 
 def rewrite_globals(module):
-    """Globals that are declared and not defined, aliases and thread-local ones are refused by the program itself."""
+    """What names a global so that the compiler keeps it, as `@llvm.used`, does nothing here."""
+    module.globals = [line for line in module.globals if not line.startswith(("@llvm.used ", "@llvm.compiler.used "))]
     for lines in (module.types, module.globals):
         for i, line in enumerate(lines):
             with refusals_at(line):
                 lines[i] = word_global(unpacked(module, line))
     for line in module.globals:
-        if EXPRESSION.search(re.sub(r'"[^"]*"', "", line)):
+        if EXPRESSION.search(without_texts(line)):
             raise Refused(f"the initial value of {line.split(' ')[0][1:]} is computed from addresses: set it at the start of main", line)
 
 
@@ -85,7 +91,7 @@ class Lines:
 
     def innermost(self, line):
         """The place of an expression that holds no other, and its instruction."""
-        for found in reversed(list(EXPRESSION.finditer(re.sub(r'"[^"]*"', lambda it: "_" * len(it[0]), line)))):
+        for found in reversed(list(EXPRESSION.finditer(without_texts(line)))):
             if line[: found.start()].strip().endswith("=") or not line[: found.start()].strip():
                 continue
             end = closing(line, found.end() - 1)
@@ -110,7 +116,7 @@ def rewrite_functions(module):
 
     def change(_, line):
         line = unpacked(module, line)
-        if not EXPRESSION.search(line):
+        if not EXPRESSION.search(without_texts(line)):
             return [line]
         before, line = lines.taken(line)
         if before and re.match(r"\s*%\S+ = phi ", line):

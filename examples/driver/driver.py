@@ -17,9 +17,9 @@ COMPILERS = ["clang"] + [f"clang-{n}" for n in range(15, 22)]
 LEAST = 15
 # without vectors, and with the C library's functions as calls in place of its headers' own tables and bodies
 FLAGS = ["-S", "-emit-llvm", "-fno-vectorize", "-fno-slp-vectorize", "-D__NO_CTYPE", "-D__NO_INLINE__", "-fdebug-compilation-dir=."]
-# a loop isn't replaced by a formula for its result, which is computed in 65 bits; and two calls of pthread_create aren't
-# made one that gets its function from a choice
-LEVELS = {"-O0": ["-O0"], "-O1": ["-O1", "-mllvm", "-replexitval=never", "-mllvm", "-sink-common-insts=false"]}
+# a loop isn't replaced by a formula for its result, which is computed in 65 bits; two calls of pthread_create aren't made
+# one that gets its function from a choice; and a table of texts isn't made one of differences of addresses
+LEVELS = {"-O0": ["-O0"], "-O1": ["-O1", "-mllvm", "-replexitval=never", "-mllvm", "-sink-common-insts=false", "-fno-pie"]}
 
 
 class Lacking(Exception):
@@ -173,6 +173,7 @@ def answer(words, top, usage):
 
 
 def main(words, top, usage):
+    """Each fault is told in a line, with a status of its own."""
     try:
         return answer(words, top, usage)
     except WrongWords as it:

@@ -6,7 +6,7 @@ from contextlib import contextmanager
 from aggregates import result_type
 from intrinsics import plain
 from layout import layout
-from module import Call, Refused, closing, is_call, refusals_at, split, without_names
+from module import Call, Refused, closing, is_call, placed, refusals_at, split, without_names
 from program import is_debug, uses
 
 # a variable has at most so many bytes, and all variables together so many granules of 8 (docs/LANGUAGE.md)
@@ -40,6 +40,7 @@ def told(line):
 
 
 def check_instruction(module, function, line):
+    """What an instruction's own words refuse, and a local array that is too large."""
     why = told(line)
     if why:
         raise Refused(f"in {function.name}: {why}")
@@ -56,7 +57,8 @@ def declarations_of(function):
         yield
     except Refused as it:
         if it.line and " = alloca " in it.line:
-            it.line = next((line for line in uses(function.lines, it.line.split()[0]) if is_debug(line)), function.head)
+            it.line = next((line for line in uses(function.lines, it.line.split()[0]) if is_debug(line)), None)
+        it.line = placed(it.line or "", function)
         raise
 
 
@@ -82,9 +84,13 @@ def check_variable(module, line):
         raise Refused(f"{name} is thread-local: hand a structure to each thread")
     if re.search(r"\b(float|double|x86_fp80)\b", words):
         raise Refused(f"{name} holds floating point, which is left out")
+    if name.startswith(("llvm.global_ctors", "llvm.global_dtors")) and " [0 x " not in line:
+        heads = [it.head for it in module.functions if f"ptr @{it.name}," in line]
+        raise Refused("a constructor or destructor is left out: call it in main", next(iter(heads), None))
     if re.search(r"\b(alias|ifunc)\b", words):
         raise Refused(f"{name} is another name for {line.split('@')[-1]}: write that name in its place")
-    type_text = type_of_variable(line)
+    # one that is declared alone is told where it is used
+    type_text = None if " external " in words else type_of_variable(line)
     size = layout(module, type_text)[0] if type_text else 0
     if size > MOST_BYTES:
         raise Refused(f"{name} has {size} bytes, and {MOST_BYTES} are the most: make it smaller, or divide it into several")

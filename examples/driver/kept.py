@@ -132,6 +132,7 @@ def make(kind):
 
 
 def make_lines():
+    """Writes the lines that have code, from a native build's line table and from nothing of the rules."""
     lines = ["# made by kept.py: the lines that have code, of each probe that a trap ends"]
     with tempfile.TemporaryDirectory() as folder:
         for name in names("probes"):

@@ -112,6 +112,6 @@ def refuse_unknown(module, names):
     for name in names:
         line = first_use(module, name)
         is_called = line is not None and is_call(line) and Call(line).name == name
-        how, cure = ("called", "write it in C beside the program") if is_called else ("used", "add the C file that defines it")
+        how, cure = ("called", "add the C file that defines it, or write it") if is_called else ("used", "add the C file that defines it")
         cure = CURES.get(name.removeprefix("__isoc99_").removeprefix("__isoc23_"), cure)
         raise Refused(f"{name} is {how} and nothing defines it: {cure}", line)

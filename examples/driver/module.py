@@ -66,7 +66,7 @@ class Module:
         for function in self.functions:
             lines = []
             for line in function.lines:
-                with refusals_at(line):
+                with refusals_at(placed(line, function)):
                     new = change(function, line)
                 lines += new if new == [line] else [with_place_of(line, it) for it in new]
             function.lines = lines
@@ -87,6 +87,11 @@ def with_place_of(line, new):
     """A new instruction with the place in C of the one that it stands for."""
     place = PLACE.search(line)
     return new + place[0] if place and not new.endswith(":") and not PLACE.search(new) else new
+
+
+def placed(line, function):
+    """A line that has a place in C: this one, or the head of its function."""
+    return line if PLACE.search(line) else function.head
 
 
 def without_names(text):

@@ -2,7 +2,7 @@
 
 import re
 
-from module import CALL, Refused
+from module import CALL, Refused, name_in
 from places import Places
 
 # lines that are no instruction and have no number
@@ -91,4 +91,7 @@ def cure_of(refusal, text):
     if not found or int(found[1]) > len(lines) or "NoMain" in refusal:
         return Refused(f"{refusal}: {cure}")
     line = lines[int(found[1]) - 1]
-    return Refused(f"{refusal}: {cure} (at: {line.strip()[:100]})", line)
+    # a declaration has no place in C, and its first call has one
+    call = re.escape("@" + name_in(line) + "(")
+    used = next((it for it in lines if re.search(rf" call .*{call}", it)), line) if line.startswith("declare ") else line
+    return Refused(f"{refusal}: {cure} (at: {line.strip()[:100]})", used)
