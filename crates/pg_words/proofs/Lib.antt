@@ -1,0 +1,2 @@
+pub mod PartStores
+pub mod Zeros
