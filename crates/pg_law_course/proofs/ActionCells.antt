@@ -1,10 +1,9 @@
 -- What an action reads and writes of cells, as its effect on a state has it.
-use Rattle.std.proofs.Common.{◌≡◌, ℕ, ℤ, zero, suc, ◌+◌, ◌-◌, ◌*◌, ◌^◌, ◌<◌, ◌≤◌, List, [], ◌∷◌, length, Bool, true, false, Option, Some, None, refl, sym, ◌∙◌, ap, subst, arith}
-use Rattle.std.specs.Prelude.{◌==◌, ◌&&◌, nat_le, nat_lt, slice_get, slice_index, if◌then◌else◌}
+use Rattle.std.proofs.Common.{◌≡◌, ℕ, zero, suc, ◌+◌, ◌-◌, ◌<◌, ◌≤◌, length, Bool, true, false, Option, Some, None, refl, sym, ◌∙◌, ap, arith}
+use Rattle.std.specs.Prelude.{◌==◌, nat_le, nat_lt, slice_index, if◌then◌else◌}
 use Rattle.std.proofs.lemmas.Bool.Decides.{nat_tests}
 use Rattle.pg_num.specs.Places.{ByteRange}
 use Rattle.pg_num.specs.declared.layout.TheConstants.{MEMORY_BYTES}
-use Rattle.pg_ir.specs.declared.request.Request.{Request}
 use Rattle.pg_ir.specs.declared.request.Request.TheVariants as requests
 use Rattle.pg_ir.specs.Program.{NumberedProgram}
 use Rattle.pg_run_memory.specs.Bytes.{number_of}
@@ -14,7 +13,7 @@ use Rattle.pg_run_thread.specs.declared.action.Action.{Action}
 use Rattle.pg_run_thread.specs.declared.action.Action.TheVariants as actions
 use Rattle.pg_run_thread.specs.LocalState.{fresh}
 use Rattle.pg_run.specs.State.{State}
-use Rattle.pg_law_effects.specs.Effect.{RequestEffect, Write, request_effect, write_of}
+use Rattle.pg_law_effects.specs.Effect.{request_effect, write_of}
 use Rattle.pg_law_effects.specs.Meets.{is_in}
 use Rattle.pg_law_effects.specs.Views.{cell_at, word_in as effect_word}
 use Rattle.pg_law_effects.proofs.ReachedStates.{fresh_number}

@@ -1,12 +1,11 @@
 -- The place of a thread's step in a run.
-use Rattle.std.proofs.Common.{◌≡◌, ℕ, zero, suc, ◌≤◌, ◌<◌, List, [], ◌∷◌, ◌++◌, length, Bool, true, false, cond, Option, Some, None, refl, sym, ◌∙◌, ap, subst, arith}
+use Rattle.std.proofs.Common.{◌≡◌, ℕ, zero, suc, ◌≤◌, ◌<◌, List, [], ◌∷◌, ◌++◌, length, Bool, true, false, cond, Option, Some, refl, sym, ◌∙◌, ap, subst, arith}
 use Rattle.std.specs.Prelude.{◌==◌, take, slice_get, if◌then◌else◌}
 use Rattle.std.specs.List.{filter}
-use Rattle.pg_law_threads.specs.Effects.{State, effect, effects}
+use Rattle.pg_law_threads.specs.Effects.{effect, effects}
 use Rattle.pg_law_threads.specs.Plans.{is_of_thread}
 use Rattle.pg_run.proofs.GuidedRuns.{same_number}
 use Rattle.pg_law_runs.specs.Deeds.{Did, Seen, Thread}
-use Rattle.pg_law_runs.proofs.RunsAsDeeds.{flipped}
 use Rattle.pg_law_course.specs.Course.{before}
 
 abbrev pub steps_of : ℕ → List Did → List Did

@@ -1,12 +1,11 @@
 -- Each step of a thread's course is the step of its local state.
-use Rattle.std.proofs.Common.{◌≡◌, ℕ, ℤ, zero, suc, ◌+◌, ◌<◌, ◌≤◌, List, [], ◌∷◌, ◌++◌, length, drop, map, Bool, true, false, Option, Some, None, refl, sym, ◌∙◌, ap, subst, arith}
+use Rattle.std.proofs.Common.{◌≡◌, ℕ, ℤ, zero, suc, ◌+◌, ◌<◌, ◌≤◌, List, ◌∷◌, ◌++◌, length, drop, Bool, true, false, Option, Some, None, refl, sym, ◌∙◌, ap, subst, arith}
 use Rattle.std.specs.Prelude.{is_some, IfSome, slice_get, slice_index, take, if◌then◌else◌}
 use Rattle.std.specs.List.{AllByRecursion as AllOf, filter}
 use Rattle.std.proofs.lemmas.Option.{slice_get_within}
 use Rattle.pg_num.specs.declared.limits.TheConstants.{GUIDED_STEP_LIMIT, THREAD_LIMIT}
 use Rattle.pg_ir.specs.Program.{NumberedProgram}
-use Rattle.pg_law_threads.specs.Effects as plans
-use Rattle.pg_law_threads.specs.Effects.{Same, deeds}
+use Rattle.pg_law_threads.specs.Effects.{deeds}
 use Rattle.pg_law_threads.specs.Intervals.{AreTurns, timed, turns_done}
 use Rattle.pg_law_threads.proofs.DoneLists.{all_left}
 use Rattle.pg_law_threads.proofs.EffectsOfSteps.{same_refl}
@@ -37,7 +36,6 @@ use Rattle.pg_law_course.specs.Course.{before, cells_before, course, local_behin
 use Rattle.pg_law_course.specs.Plan.{first_seen, guided_deeds, is_shared}
 use Rattle.pg_law_course.specs.Prints.{number_told}
 use Rattle.pg_law_course.specs.Steps.{IsStepOf, IsTurnOf, access_by, accessed, answer_by, happening_by, is_shared_action, made_by, reads_by, thread_named, writes_by}
-use Rattle.pg_law_course.specs.Threads.{start_function}
 use Rattle.pg_law_course.proofs.CoursePlaces.{Place, behind_taken, get_length, local_left, own_before, place, steps_of, take_length, thread_behind}
 use Rattle.pg_law_course.proofs.GuidedPlan.{is_plan, ordered_full}
 use Rattle.pg_law_course.proofs.PrintedTexts.{step_tells}

@@ -1,7 +1,5 @@
 -- The full guided run as a plan.
-use Rattle.std.proofs.Common.{◌≡◌, ℕ, ℤ, List, Bool, true, false, refl, subst, ◌∙◌, sym}
-use Rattle.std.specs.Prelude.{◌||◌}
-use Rattle.std.specs.List.{filter}
+use Rattle.std.proofs.Common.{◌≡◌, ℤ, List, true, refl}
 use Rattle.pg_ir.specs.Program.{NumberedProgram}
 use Rattle.pg_law_threads.specs.Effects.{deeds}
 use Rattle.pg_law_threads.specs.Plans.{IsPlan}

@@ -16,3 +16,4 @@ pub mod RestingThreads
 pub mod PrintedTexts
 pub mod MainWord
 pub mod GuidedOutput
+pub mod OutputByTurns

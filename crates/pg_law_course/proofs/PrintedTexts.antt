@@ -1,6 +1,6 @@
 -- A run prints what its steps tell that they print.
-use Rattle.std.proofs.Common.{◌≡◌, ℕ, ℤ, ◌^◌, ◌<◌, List, [], ◌∷◌, ◌++◌, length, Option, Some, None, refl, sym, ◌∙◌, ap, subst, append-nil, append_assoc}
-use Rattle.std.specs.Prelude.{slice_get, slice_index}
+use Rattle.std.proofs.Common.{◌≡◌, ℕ, ℤ, List, [], ◌∷◌, ◌++◌, Option, Some, None, refl, sym, ◌∙◌, ap, append-nil, append_assoc}
+use Rattle.std.specs.Prelude.{slice_get}
 use Rattle.pg_ir.specs.declared.ids.InstrId.{InstrId}
 use Rattle.pg_ir.specs.declared.instr.Instr.{Instr}
 use Rattle.pg_ir.specs.declared.instr.Op.{Op}
@@ -16,11 +16,10 @@ use Rattle.pg_run_thread.specs.declared.action.Action.TheVariants as actions
 use Rattle.pg_run_thread.specs.LocalState.{LocalState}
 use Rattle.pg_run_thread.specs.Step.{next}
 use Rattle.pg_run_thread.specs.Told.{operand_values}
-use Rattle.pg_run_trace.specs.declared.schedule.Schedule.{Schedule}
 use Rattle.pg_run_trace.specs.declared.step.Step.{Step}
 use Rattle.pg_run_trace.specs.declared.step.StepKind.{StepKind}
 use Rattle.pg_run.specs.MachineStep.{instr_told, kind_told, library_told, number_in, op_told, operands_in}
-use Rattle.pg_run.specs.State.{State, initial, instr_of, next_of}
+use Rattle.pg_run.specs.State.{State, instr_of, next_of}
 use Rattle.pg_run.specs.Runs.{IsRun, Takes}
 use Rattle.pg_run.specs.Texts.{printed_by}
 use Rattle.pg_run.proofs.StepsBegin.{next_is, ready_made}

@@ -1,5 +1,5 @@
 -- The reply of a turn stands in the schedule at the turn's number, and a thread goes on with it as with the answer.
-use Rattle.std.proofs.Common.{◌≡◌, ℕ, ℤ, ◌+◌, List, [], ◌∷◌, ◌++◌, length, Bool, true, false, Option, Some, None, refl, sym, ◌∙◌, ap, subst, suc, append_assoc}
+use Rattle.std.proofs.Common.{◌≡◌, ℕ, ℤ, List, [], ◌∷◌, ◌++◌, length, Bool, true, false, Option, Some, None, refl, sym, ◌∙◌, ap, suc, append_assoc}
 use Rattle.std.specs.Prelude.{slice_index}
 use Rattle.std.specs.List.{cons_option}
 use Rattle.std.proofs.lemmas.List.Elements.{filter_map-append}
@@ -18,7 +18,7 @@ use Rattle.pg_run_trace.specs.declared.step.StepKind.{StepKind}
 use Rattle.pg_run_trace.specs.declared.step.StepKind.TheVariants as told
 use Rattle.pg_run_trace.specs.Kinds.{kind_of}
 use Rattle.pg_run_trace.specs.Races.{reply_in, reply_of}
-use Rattle.pg_run_trace.specs.Steps.{event_of, events, happening_in, turn_at}
+use Rattle.pg_run_trace.specs.Steps.{events, happening_in}
 use Rattle.pg_run.specs.MachineStep.{answer_of}
 use Rattle.pg_run.specs.State.{State}
 use Rattle.pg_law_runs.specs.Cuts.{IsFrontOf}

@@ -1,16 +1,13 @@
 -- How threads rest where the full guided run ends.
-use Rattle.std.proofs.Common.{◌≡◌, ◌≢◌, ℕ, ℤ, zero, suc, ◌+◌, ◌-◌, ◌<◌, ◌≤◌, List, [], ◌∷◌, length, drop, Bool, true, false, cond, Option, Some, None, refl, sym, ◌∙◌, ap, subst, arith, ◌⊎◌, inl, inr}
-use Rattle.std.specs.Prelude.{◌==◌, ◌||◌, is_some, nat_le, slice_get, slice_index, take, if◌then◌else◌}
+use Rattle.std.proofs.Common.{◌≡◌, ◌≢◌, ℕ, ℤ, zero, suc, ◌+◌, ◌-◌, ◌≤◌, List, [], ◌∷◌, length, drop, Bool, true, false, cond, Option, Some, None, refl, sym, ◌∙◌, ap, subst, arith, ◌⊎◌, inl, inr}
+use Rattle.std.specs.Prelude.{◌==◌, ◌||◌, is_some, nat_le, slice_get, take, if◌then◌else◌}
 use Rattle.std.specs.List.{filter}
-use Rattle.std.proofs.lemmas.Bool.{cases_eq, or_cases}
 use Rattle.std.proofs.lemmas.Bool.Decides.{nat_tests}
 use Rattle.std.proofs.lemmas.Option.{slice_get_within}
 use Rattle.pg_num.specs.Numbers.{signed, truncated}
 use Rattle.pg_num.specs.declared.width.Width.TheVariants.{W32}
 use Rattle.pg_num.specs.declared.limits.TheConstants.{GUIDED_STEP_LIMIT}
-use Rattle.pg_num.specs.declared.layout.TheConstants.{MEMORY_BYTES}
 use Rattle.pg_ir.specs.declared.ids.InstrId.{InstrId}
-use Rattle.pg_ir.specs.declared.ids.ThreadNo.{ThreadNo}
 use Rattle.pg_ir.specs.declared.request.Request.TheVariants as requests
 use Rattle.pg_ir.specs.declared.request.TrapName.{TrapName}
 use Rattle.pg_ir.specs.Program.{NumberedProgram}
@@ -29,24 +26,24 @@ use Rattle.pg_run_trace.specs.declared.turn.Turn.{Turn}
 use Rattle.pg_run.specs.declared.guided_end.GuidedEnd.{GuidedEnd}
 use Rattle.pg_run.specs.declared.guided_end.GuidedEnd.TheVariants as ends
 use Rattle.pg_run.specs.State.{State, action_in, exit_value_of, initial, instr_of, next_of}
-use Rattle.pg_run.specs.MachineStep.{is_ended, trap_of, turn_of}
-use Rattle.pg_run.specs.Permitted.{IsHeld, IsHeldBy, end_before, full_end, has_spent as spent_in, has_turn, rests, trapped, traps, turns_left}
+use Rattle.pg_run.specs.MachineStep.{is_ended, trap_of}
+use Rattle.pg_run.specs.Permitted.{IsHeld, IsHeldBy, end_before, full_end, has_spent as spent_in, has_turn, trapped, traps, turns_left}
 use Rattle.pg_run.specs.Runs.{events, steps_of as step_count}
 use Rattle.pg_run.proofs.GuidedRuns.{same_as_itself, same_number}
 use Rattle.pg_run.proofs.StepsBegin.{next_is}
 use Rattle.pg_law_effects.specs.Effect.{effect, effect_of}
 use Rattle.pg_law_effects.specs.PermittedSteps.{none_taken, one_more}
 use Rattle.pg_law_effects.specs.Reached.{IsReached}
-use Rattle.pg_law_effects.specs.Views.{begun_in, cell_at, local_at}
+use Rattle.pg_law_effects.specs.Views.{local_at}
 use Rattle.pg_law_effects.proofs.FullGuidedRun.{full_is}
 use Rattle.pg_law_effects.proofs.GuidedWalks.{one_more_step, other_step}
-use Rattle.pg_law_effects.proofs.ReachedStates.{present, reached_first, reached_run}
+use Rattle.pg_law_effects.proofs.ReachedStates.{reached_first, reached_run}
 use Rattle.pg_law_runs.specs.Cuts.{CanRun}
 use Rattle.pg_law_runs.specs.Deeds.{Did, Thread, deed_of, deeds_of, goes_on, is_event_at, owners_of, seen}
 use Rattle.pg_law_runs.proofs.CutRuns as cuts
 use Rattle.pg_law_runs.proofs.DeedDependence.{get_behind}
 use Rattle.pg_law_runs.proofs.MaximalRuns.{turn_there}
-use Rattle.pg_law_runs.proofs.RunsAsDeeds.{flipped, next_state}
+use Rattle.pg_law_runs.proofs.RunsAsDeeds.{flipped}
 use Rattle.pg_law_runs.proofs.StepRules.{instr_is, next_fresh, turn_is}
 use Rattle.pg_law_order.specs.Good.{IsGoodRun, run_along}
 use Rattle.pg_law_order.proofs.GoodRunsServe.{same_end, stays}
@@ -55,7 +52,7 @@ use Rattle.pg_law_course.specs.Threads.{start_function}
 use Rattle.pg_law_course.specs.Plan.{first_seen, guided_deeds, turn_count}
 use Rattle.pg_law_course.specs.Rests.{RestsAt, exit_end, has_spent, held_end, is_trap, trap_end}
 use Rattle.pg_law_course.proofs.ActionCells.{word_same}
-use Rattle.pg_law_course.proofs.CoursePlaces.{local_left, steps_of, take_all, thread_behind}
+use Rattle.pg_law_course.proofs.CoursePlaces.{local_left, take_all, thread_behind}
 use Rattle.pg_law_course.proofs.CourseSteps as steps
 use Rattle.pg_law_course.proofs.GuidedPlan.{is_plan, ordered_full}
 use Rattle.pg_law_course.proofs.TurnNumbers.{NextTurn, below, next_at, own_turns}

@@ -1,16 +1,15 @@
 -- The place of a shared step in the plan.
-use Rattle.std.proofs.Common.{◌≡◌, ℕ, ℤ, zero, suc, ◌≤◌, ◌<◌, List, [], ◌∷◌, ◌++◌, length, Bool, true, false, cond, Option, Some, None, refl, sym, ◌∙◌, ap, subst, arith, ◌⊎◌, inl, inr}
-use Rattle.std.specs.Prelude.{◌==◌, ◌||◌, is_some, take, slice_get, if◌then◌else◌}
+use Rattle.std.proofs.Common.{◌≡◌, ℕ, ℤ, zero, suc, ◌≤◌, ◌<◌, List, [], ◌∷◌, ◌++◌, length, Bool, true, false, cond, Option, Some, None, refl, sym, ◌∙◌, ap, subst, ◌⊎◌, inl, inr}
+use Rattle.std.specs.Prelude.{◌==◌, ◌||◌, is_some, take, slice_get}
 use Rattle.std.specs.List.{AllByRecursion as AllOf, filter}
 use Rattle.std.proofs.lemmas.Bool.{cases_lt}
 use Rattle.pg_num.specs.declared.layout.TheConstants.{MEMORY_BYTES}
 use Rattle.pg_ir.specs.Program.{NumberedProgram}
 use Rattle.pg_law_threads.specs.Effects as plans
 use Rattle.pg_law_threads.specs.Effects.{deeds, effect, effects}
-use Rattle.pg_law_threads.specs.Intervals.{Timed, done_after, next_from, timed, times, turns_done}
+use Rattle.pg_law_threads.specs.Intervals.{done_after, timed, times, turns_done}
 use Rattle.pg_law_threads.specs.Plans.{is_of_thread}
 use Rattle.pg_law_threads.specs.Standing.{own}
-use Rattle.pg_law_threads.proofs.LastAndNextTurn.{next_own}
 use Rattle.pg_run_trace.specs.declared.schedule.Schedule.{Schedule}
 use Rattle.pg_run_trace.specs.Races.{writes_in}
 use Rattle.pg_run_trace.specs.Steps.{access_of}

@@ -1,9 +1,8 @@
 -- The functions with which threads will begin are those that the schedule's turns name.
-use Rattle.std.proofs.Common.{◌≡◌, ℕ, ℤ, zero, suc, ◌+◌, ◌<◌, ◌≤◌, List, [], ◌∷◌, ◌++◌, length, drop, map, Bool, true, false, Option, Some, None, refl, sym, ◌∙◌, ap, subst, arith, ◌⊎◌, inl, inr}
+use Rattle.std.proofs.Common.{◌≡◌, ℕ, ℤ, zero, suc, ◌<◌, ◌≤◌, List, [], ◌∷◌, ◌++◌, length, drop, map, Bool, true, false, Option, Some, None, refl, sym, ◌∙◌, ap, subst, arith, ◌⊎◌, inl, inr}
 use Rattle.std.specs.Prelude.{◌==◌, ◌&&◌, find, is_some, slice_get, slice_set, if◌then◌else◌}
-use Rattle.std.proofs.lemmas.Bool.{and_parts, cases_eq, cases_lt}
+use Rattle.std.proofs.lemmas.Bool.{cases_lt}
 use Rattle.std.proofs.lemmas.Bool.Decides.{nat_tests}
-use Rattle.std.proofs.lemmas.Option.{slice_get_within}
 use Rattle.std.proofs.lemmas.List.{length-append}
 use Rattle.pg_num.specs.Places.{ByteRange}
 use Rattle.pg_ir.specs.declared.ids.InstrId.{InstrId}
@@ -16,7 +15,6 @@ use Rattle.pg_run_thread.specs.declared.action.Action.{Action}
 use Rattle.pg_run_thread.specs.declared.action.Action.TheVariants as actions
 use Rattle.pg_run_thread.specs.LocalState.{LocalState, fresh}
 use Rattle.pg_run_thread.specs.Step.{next}
-use Rattle.pg_run_thread.specs.Told.{id_of}
 use Rattle.pg_run_trace.specs.declared.turn.Turn.{Turn}
 use Rattle.pg_run_trace.specs.declared.turn.TurnKind.{TurnKind}
 use Rattle.pg_run_trace.specs.declared.turn.TurnKind.TheVariants as kinds
@@ -27,11 +25,11 @@ use Rattle.pg_run.specs.State.{State, initial, instr_of, next_of}
 use Rattle.pg_run.specs.Runs.{Takes, event_of}
 use Rattle.pg_run.proofs.GuidedRuns.{same_as_itself, same_number}
 use Rattle.pg_run.proofs.StepsBegin.{next_is, ready_made}
-use Rattle.pg_run.proofs.Threads.{last_other, last_own, set_length}
-use Rattle.pg_law_effects.specs.Effect.{Effect, RequestEffect, effect, effect_of, request_effect}
+use Rattle.pg_run.proofs.Threads.{set_length}
+use Rattle.pg_law_effects.specs.Effect.{effect_of, request_effect}
 use Rattle.pg_law_effects.specs.PermittedSteps.{IsDue}
 use Rattle.pg_law_effects.specs.Reached.{IsReached, IsThread}
-use Rattle.pg_law_effects.specs.Views.{LeadsTo, Objects, objects_of, objects_with, start_made, start_of}
+use Rattle.pg_law_effects.specs.Views.{LeadsTo, Objects, objects_of, objects_with, start_of}
 use Rattle.pg_law_effects.proofs.ReachedStates.{present}
 use Rattle.pg_law_effects.proofs.StepsApart.{left_by}
 use Rattle.pg_law_effects.proofs.StepViews.{leads_to}

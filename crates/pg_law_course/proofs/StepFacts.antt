@@ -1,6 +1,6 @@
 -- What a step does, by the local state of its thread before it.
-use Rattle.std.proofs.Common.{◌≡◌, ℕ, ℤ, ◌+◌, ◌-◌, ◌<◌, List, length, Bool, true, false, Option, Some, None, refl, sym, ◌∙◌, ap, subst, arith}
-use Rattle.std.specs.Prelude.{◌&&◌, ◌||◌, not, nat_lt, is_some, IfSome, slice_get, slice_index, if◌then◌else◌}
+use Rattle.std.proofs.Common.{◌≡◌, ℕ, ℤ, ◌-◌, ◌<◌, List, Bool, true, false, Option, Some, None, refl, sym, ◌∙◌, ap, subst, arith}
+use Rattle.std.specs.Prelude.{◌&&◌, ◌||◌, not, nat_lt, is_some, IfSome, slice_get, if◌then◌else◌}
 use Rattle.pg_num.specs.declared.layout.TheConstants.{MEMORY_BYTES}
 use Rattle.pg_num.specs.declared.limits.TheConstants.{THREAD_LIMIT}
 use Rattle.pg_num.specs.Places.{ByteRange}
@@ -27,13 +27,13 @@ use Rattle.pg_run.specs.State.{State, instr_of, next_of}
 use Rattle.pg_run.specs.Runs.{Takes}
 use Rattle.pg_run.proofs.ActionPlaces.{next_named}
 use Rattle.pg_run.proofs.StepsBegin.{next_is, ready_acts, ready_made}
-use Rattle.pg_law_effects.specs.Effect.{Effect, Write, answer_to, effect_of, own_after, request_effect, write_of}
+use Rattle.pg_law_effects.specs.Effect.{Write, answer_to, effect_of, own_after, request_effect, write_of}
 use Rattle.pg_law_effects.specs.Meets.{byte_in, is_in}
 use Rattle.pg_law_effects.specs.Reached.{IsReached}
-use Rattle.pg_law_effects.specs.Views.{cell_at, cell_written, reads_cell, word_in as effect_word}
+use Rattle.pg_law_effects.specs.Views.{cell_at, word_in as effect_word}
 use Rattle.pg_law_effects.proofs.ThreadLimits.{did_allowed}
 use Rattle.pg_law_effects.proofs.ToldByStep.{event_is}
-use Rattle.pg_law_runs.specs.Deeds.{Did, deed_of, goes_on, is_event_at}
+use Rattle.pg_law_runs.specs.Deeds.{deed_of, goes_on, is_event_at}
 use Rattle.pg_law_runs.proofs.DeedDependence.{deed_event, goes_by}
 use Rattle.pg_law_runs.proofs.StepRules.{instr_is, turn_is}
 use Rattle.pg_law_runs.proofs.ToldCells.{told}

@@ -1,9 +1,8 @@
 -- Small steps, on which the definitions are computed.
-use Rattle.std.specs.Prelude.{ℕ, List, [], ◌∷◌, Bool, true, false, Option, Some, None}
+use Rattle.std.specs.Prelude.{ℕ, List, [], ◌∷◌, true, false, None}
 use Rattle.pg_run_trace.specs.declared.step.Step.{Step}
 use Rattle.pg_run_trace.specs.declared.step.StepKind.TheVariants as kinds
 use Rattle.pg_run_trace.specs.declared.turn.TurnKind.{TurnKind}
-use Rattle.pg_run_trace.specs.declared.turn.TurnKind.TheVariants as turns
 use Rattle.pg_law_order.specs.Examples.{access}
 use Rattle.pg_law_runs.specs.Deeds.{Did}
 

@@ -1,19 +1,24 @@
 -- What a run prints, by what is told of its steps, and with which word a thread ends.
-use Rattle.std.specs.Prelude.{ℕ, ◌+◌, ◌%◌, List, [], ◌∷◌, ◌++◌, Option, Some, None, slice_index}
+use Rattle.std.specs.Prelude.{ℕ, ℤ, ◌+◌, ◌%◌, ◌==◌, List, [], ◌∷◌, ◌++◌, take, drop, Bool, true, false, Option, Some, None, slice_index, if◌then◌else◌}
+use Rattle.std.specs.List.{filter_map}
 use Rattle.std.specs.Fmt.{signed_decimal}
 use Rattle.pg_num.specs.Numbers.{signed}
 use Rattle.pg_num.specs.declared.layout.TheConstants.{MEMORY_BYTES}
 use Rattle.pg_num.specs.declared.width.Width.TheVariants.{W64}
 use Rattle.pg_ir.specs.declared.request.Request.TheVariants as requests
+use Rattle.pg_ir.specs.Program.{NumberedProgram}
 use Rattle.pg_law_threads.specs.Effects.{or_old}
 use Rattle.pg_run_thread.specs.declared.action.Action.{Action}
 use Rattle.pg_run_thread.specs.declared.action.Action.TheVariants as actions
+use Rattle.pg_run_trace.specs.declared.schedule.Schedule.{Schedule}
 use Rattle.pg_run_trace.specs.declared.step.Step.{Step}
 use Rattle.pg_run_trace.specs.declared.step.StepKind.{StepKind}
 use Rattle.pg_run_trace.specs.declared.step.StepKind.TheVariants as told
+use Rattle.pg_run_trace.specs.declared.turn.Turn.{Turn}
 use Rattle.pg_run_trace.specs.declared.turn.TurnKind.{TurnKind}
 use Rattle.pg_run_trace.specs.declared.turn.TurnKind.TheVariants as kinds
 use Rattle.pg_law_runs.specs.Deeds.{Did}
+use Rattle.pg_law_course.specs.Course.{course}
 
 -- the number that a print prints
 abbrev pub printed_if : TurnKind → ℕ → Option ℕ
@@ -45,6 +50,27 @@ text_told k = []
 abbrev pub output_of : List Step → List ℕ
 output_of [] = []
 output_of (x ∷ xs) = text_told x.kind ++ output_of xs
+
+-- the numbers that thread t prints in its first k steps
+abbrev pub numbers_printed : NumberedProgram → List ℤ → Schedule → ℕ → ℕ → List ℕ
+numbers_printed p input s t k = filter_map (λ (d : Did). number_told d.told.kind) (take k (course p input s t))
+
+abbrev pub is_print : TurnKind → Bool
+is_print kinds.Out = true
+is_print kinds.Putchar = true
+is_print kind = false
+
+-- the numbers of each thread, without the first of thread t
+abbrev pub without_first : ℕ → (ℕ → List ℕ) → ℕ → List ℕ
+without_first t numbers u = if u == t then drop 1 (numbers u) else numbers u
+
+-- what these turns print, one after another, where each thread prints these numbers
+abbrev pub output_along : List Turn → (ℕ → List ℕ) → List ℕ
+output_along [] numbers = []
+output_along (u ∷ us) numbers =
+    if is_print u.kind
+    then text_of u.kind (slice_index (numbers u.thread.0) 0) ++ output_along us (without_first u.thread.0 numbers)
+    else output_along us numbers
 
 -- the word of thread t behind steps, where it was this before them
 abbrev pub word_behind : ℕ → ℕ → List Did → ℕ

@@ -4,7 +4,8 @@
 
 pub mod examples;
 
-ghost use Rattle.std.specs.Prelude.{◌≡◌, ℕ, suc, ℤ, List, Some, if◌then◌else◌, length, slice_get, true};
+ghost use Rattle.std.specs.Prelude.{◌≡◌, ◌++◌, [], ℕ, suc, ℤ, List, Some, if◌then◌else◌, length, slice_get, take, true};
+ghost use Rattle.std.specs.List.{cons_option};
 ghost use Rattle.pg_num.specs.Places.{ByteRange};
 ghost use Rattle.pg_ir.specs.Program.{NumberedProgram};
 ghost use Rattle.pg_ir.specs.WellFormed.{IsProgram};
@@ -21,7 +22,7 @@ ghost use Rattle.pg_law_order.specs.Good.{IsGoodRun, run_along};
 ghost use Rattle.pg_law_order.specs.Served.{guided_along};
 ghost use Rattle.pg_law_course.specs.Course.{before, cells_before, course, next_turn, shared_in, state_at, turns_before, turns_in};
 ghost use Rattle.pg_law_course.specs.Plan.{first_seen, guided_deeds, is_shared, own_plan, plan_of, turn_count};
-ghost use Rattle.pg_law_course.specs.Prints.{output_of, word_behind};
+ghost use Rattle.pg_law_course.specs.Prints.{number_told, numbers_printed, output_along, output_of, word_behind};
 ghost use Rattle.pg_law_course.specs.Rests.{RestsAt, cells_left, exit_end};
 ghost use Rattle.pg_law_course.specs.Steps.{IsStepOf, word_in};
 ghost use Rattle.pg_law_course.specs.Threads.{function_operand};
@@ -56,12 +57,15 @@ pub fn a_step_is_that_of_its_local_state()
         → slice_get (course p input s t) k ≡ Some d → state_at p input s t k ≡ Some l → IsStepOf p input s t k l d }
 {}
 
-/// One step more is one more of a thread's shared steps where it is shared, and one more of its turns where it is an event.
+/// One step more is one more of a thread's shared steps where it is shared, one more of its turns where it is an event, and one more of
+/// its numbers where it prints one.
 pub fn a_step_is_counted()
     ensures shared { (p : NumberedProgram) (input : List ℤ) (s : Schedule) (t k : ℕ) (d : Did) → slice_get (course p input s t) k ≡ Some d
         → shared_in p input s t (suc k) ≡ (if is_shared d then suc (shared_in p input s t k) else shared_in p input s t k) }
     ensures turns { (p : NumberedProgram) (input : List ℤ) (s : Schedule) (t k : ℕ) (d : Did) → slice_get (course p input s t) k ≡ Some d
         → turns_in p input s t (suc k) ≡ (if deeds.is_event d then suc (turns_in p input s t k) else turns_in p input s t k) }
+    ensures numbers { (p : NumberedProgram) (input : List ℤ) (s : Schedule) (t k : ℕ) (d : Did) → slice_get (course p input s t) k ≡ Some d
+        → numbers_printed p input s t (suc k) ≡ numbers_printed p input s t k ++ cons_option (number_told d.told.kind) [] }
 {}
 
 /// A shared step of a thread stands in the plan behind so many of the thread's shared steps, with its interval, which ends with its
@@ -94,11 +98,13 @@ pub fn a_thread_rests_where_the_run_ends()
         → (run_along p input s).end ≡ exit_end p input s }
 {}
 
-/// A good run prints what its steps tell that they print, one after another; and the main thread's word is what its own steps leave
-/// of it.
+/// A good run prints what its steps tell that they print, one after another; so turn by turn it prints the next number of the turn's
+/// thread. The main thread's word is what its own steps leave of it.
 pub fn what_a_run_prints_and_exits_with()
     ensures output { (p : NumberedProgram) (input : List ℤ) (s : Schedule) → CanRun p input → IsGoodRun p input s
         → (run_along p input s).state.printed ≡ output_of (run_along p input s).trace }
+    ensures by_turns { (p : NumberedProgram) (input : List ℤ) (s : Schedule) → CanRun p input → IsGoodRun p input s
+        → (run_along p input s).state.printed ≡ output_along (take (turn_count p input s) s.turns) (λ t. numbers_printed p input s t (length (course p input s t))) }
     ensures word { (p : NumberedProgram) (input : List ℤ) (s : Schedule) → CanRun p input → IsGoodRun p input s
         → word_in (cells_left p input s) 0 ≡ word_behind 0 0 (course p input s 0) }
 {}

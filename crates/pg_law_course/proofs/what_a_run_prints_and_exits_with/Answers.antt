@@ -1,5 +1,6 @@
 use Rattle.pg_law_course.proofs.MainWord.{main_word}
 use Rattle.pg_law_course.proofs.GuidedOutput.{output}
+use Rattle.pg_law_course.proofs.OutputByTurns.{output_by_turns}
 use Rattle.pg_law_course.proofs.what_a_run_prints_and_exits_with.Goals as goal
 
 pub returns-clause-output : goal.returns-clause-output
@@ -7,3 +8,6 @@ returns-clause-output c p input s can g = output p input s can g
 
 pub returns-clause-word : goal.returns-clause-word
 returns-clause-word c p input s can g = main_word p input s can g
+
+pub returns-clause-by_turns : goal.returns-clause-by_turns
+returns-clause-by_turns c p input s can g = output_by_turns p input s can g
