@@ -9,7 +9,7 @@ import re
 
 from intrinsics import plain
 from layout import layout, structure, fields
-from module import Call, Refused, closing, is_call, split
+from module import Call, Refused, closing, is_call, refusals_at, split
 
 AGGREGATE = r"(?:\{|\[|<\{|%(?!v\.)[-\w$.]+)"
 
@@ -154,9 +154,11 @@ class Apart:
             parameters.insert(0, "ptr %pg.result")
         self.function.head = f"{before} @{self.function.name}({', '.join(parameters)}){head[closed + 1:]}"
 
-    def run(self):
-        lines = [new for line in self.function.lines for new in self.rewritten(line)]
-        self.head()
+    def finish(self):
+        """Behind the rewriting of the lines: the places for their values stand first in the function."""
+        with refusals_at(self.function.head):
+            self.head()
+        lines = self.function.lines
         first = next(i for i, line in enumerate(lines) if line.endswith(":")) + 1
         self.function.lines = lines[:first] + self.places + lines[first:]
 
@@ -180,5 +182,7 @@ def without_by(parameter):
 
 
 def rewrite(module, intrinsics):
-    for function in module.functions:
-        Apart(module, function, intrinsics).run()
+    apart = {id(function): Apart(module, function, intrinsics) for function in module.functions}
+    module.change_lines(lambda function, line: apart[id(function)].rewritten(line))
+    for each in apart.values():
+        each.finish()

@@ -8,9 +8,10 @@ padding comes in. `@n = global i64 ptrtoint (ptr @x to i64)` holds a pointer's w
 import re
 
 from layout import as_plain
-from module import Refused, closing, split
+from module import Refused, closing, refusals_at, split, without_names
 
-EXPRESSION = re.compile(r"\b(ptrtoint|sub|add|mul|icmp|trunc|zext|sext|and|or|xor|shl|lshr|ashr|bitcast|addrspacecast|select)\s*((?:nuw |nsw |exact |eq |ne |ult |ugt |ule |uge |slt |sgt |sle |sge )*)\(")
+# none behind the sign of a name: a function may be called so in C
+EXPRESSION = re.compile(r"(?<![%@\w$.-])(ptrtoint|sub|add|mul|icmp|trunc|zext|sext|and|or|xor|shl|lshr|ashr|bitcast|addrspacecast|select)\s*((?:nuw |nsw |exact |eq |ne |ult |ugt |ule |uge |slt |sgt |sle |sge )*)\(")
 
 
 def outside_strings(line, change):
@@ -19,6 +20,11 @@ def outside_strings(line, change):
     for i in range(0, len(parts), 2):
         parts[i] = change(parts[i])
     return "".join(parts)
+
+
+def without_texts(line):
+    """A line of the same length with nothing in its strings."""
+    return re.sub(r'"[^"]*"', lambda it: "_" * len(it[0]), line)
 
 
 def check_packed(module, line):
@@ -34,14 +40,15 @@ def check_packed(module, line):
 
 def is_type(text):
     """A packed structure's type, and no value of one: no field has a value."""
+    text = without_names(text)
     first = split(text[2:-2])[0] if split(text[2:-2]) else ""
     return bool(re.fullmatch(r"i\d+|ptr|\[.*\]|%[-\w$.]+|\{.*\}|<\{.*\}>", first)) and not re.search(r"zeroinitializer|\bi\d+ -?\d|\bnull\b|@", text)
 
 
 def unpacked(module, line):
-    if "<{" not in line:
+    if "<{" not in without_texts(line):
         return line
-    check_packed(module, line)
+    check_packed(module, without_texts(line))
     return outside_strings(line, lambda part: part.replace("<{", "{").replace("}>", "}"))
 
 
@@ -52,19 +59,22 @@ def word_global(line):
 
 
 def rewrite_globals(module):
-    """Globals that are declared and not defined, aliases and thread-local ones are refused by the program itself."""
-    module.types = [unpacked(module, line) for line in module.types]
-    module.globals = [word_global(unpacked(module, line)) for line in module.globals]
+    """What names a global so that the compiler keeps it, as `@llvm.used`, does nothing here."""
+    module.globals = [line for line in module.globals if not line.startswith(("@llvm.used ", "@llvm.compiler.used "))]
+    for lines in (module.types, module.globals):
+        for i, line in enumerate(lines):
+            with refusals_at(line):
+                lines[i] = word_global(unpacked(module, line))
     for line in module.globals:
-        if EXPRESSION.search(re.sub(r'"[^"]*"', "", line)):
-            raise Refused(f"the initial value of {line.split(' ')[0]} is computed from addresses: set it at the start of main")
+        if EXPRESSION.search(without_texts(line)):
+            raise Refused(f"the initial value of {line.split(' ')[0][1:]} is computed from addresses: set it at the start of main", line)
 
 
 class Lines:
-    """Puts the expressions of one function into lines of their own."""
+    """Puts expressions into lines of their own, each with a register of its own name."""
 
-    def __init__(self, module):
-        self.module, self.count = module, 0
+    def __init__(self):
+        self.count = 0
 
     def taken(self, line):
         """The lines that compute the expressions of a line, innermost first, and the line with their names."""
@@ -81,7 +91,7 @@ class Lines:
 
     def innermost(self, line):
         """The place of an expression that holds no other, and its instruction."""
-        for found in reversed(list(EXPRESSION.finditer(re.sub(r'"[^"]*"', lambda it: "_" * len(it[0]), line)))):
+        for found in reversed(list(EXPRESSION.finditer(without_texts(line)))):
             if line[: found.start()].strip().endswith("=") or not line[: found.start()].strip():
                 continue
             end = closing(line, found.end() - 1)
@@ -102,15 +112,15 @@ def instruction(name, flags, inside):
 
 
 def rewrite_functions(module):
-    for function in module.functions:
-        lines, result = Lines(module), []
-        for line in function.lines:
-            line = unpacked(module, line)
-            if not EXPRESSION.search(line):
-                result.append(line)
-                continue
-            before, line = lines.taken(line)
-            if before and re.match(r"\s*%\S+ = phi ", line):
-                raise Refused("an address is computed in a phi: compile with -O0")
-            result += [*before, line]
-        function.lines = result
+    lines = Lines()
+
+    def change(_, line):
+        line = unpacked(module, line)
+        if not EXPRESSION.search(without_texts(line)):
+            return [line]
+        before, line = lines.taken(line)
+        if before and re.match(r"\s*%\S+ = phi ", line):
+            raise Refused("an address is computed in a phi: compile with -O0")
+        return [*before, line]
+
+    module.change_lines(change)

@@ -24,7 +24,7 @@ def has_words(argument):
 
 def plain(argument):
     """An argument without attributes: its type and its value."""
-    words = re.sub(r"\b(align \d+|noundef|nonnull|noalias|nocapture|readonly|writeonly|readnone|immarg|captures\([^)]*\)|dereferenceable(_or_null)?\(\d+\)|signext|zeroext|inreg|returned|allocptr) ?", "", argument)
+    words = re.sub(r"(?<![%@\w$.-])(align \d+|noundef|nonnull|noalias|nocapture|readonly|writeonly|readnone|immarg|captures\([^)]*\)|dereferenceable(_or_null)?\(\d+\)|signext|zeroext|inreg|returned|allocptr) ?", "", argument)
     return re.sub(r"\s+", " ", words).strip()
 
 
@@ -128,6 +128,5 @@ def cure(name):
 
 def rewrite(module, intrinsics):
     """Every intrinsic of the module."""
-    for function in module.functions:
-        function.lines = [new for line in function.lines for new in intrinsics.rewritten(line)]
+    module.change_lines(lambda _, line: intrinsics.rewritten(line))
     module.declared = [line for line in module.declared if not re.search(r"@llvm\.(?!lifetime\.|dbg\.)", line)]

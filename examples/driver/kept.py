@@ -7,9 +7,14 @@ and what a native run printed and returned.
 are clang's texts of them, `../NAME.ll` what the rules make of an example's. `probes.txt` and `programs.txt` have a line
 for each: its name, `accepted`, `ends` or `refused`, and for the first the exit status and the printed text of a native
 run; one that is refused has the sentence. `ends` is a native run that a signal ends, here a trap.
+
+A probe has `// refused here` behind the line that is refused, or `// trap here` behind the one that ends it; an example
+has `// race here` behind lines that race. Their texts are kept with debug information, and `lines.txt` has for those
+with a trap the lines that have code, by clang's own line table.
 """
 
 import os
+import re
 import subprocess
 import sys
 import tempfile
@@ -18,7 +23,7 @@ sys.dont_write_bytecode = True
 HERE = os.path.dirname(os.path.abspath(__file__))
 EXAMPLES = os.path.dirname(HERE)
 # the examples, each of which runs on the second list of numbers; the probes run on the first
-PROGRAMS = ["radix_sort", "thread_pool", "philosophers", "readers_writers", "bank", "bank_racy", "matrix", "bounded_buffer", "word_count", "prefix_sums", "quicksort"]
+PROGRAMS = ["radix_sort", "thread_pool", "philosophers", "readers_writers", "bank", "bank_racy", "matrix", "bounded_buffer", "word_count", "prefix_sums", "quicksort", "quicksort_apart", "radix_sort_apart", "extremes", "extremes_apart", "two_locks"]
 # the racy bank's threads run one after another in long shares, as they mostly do natively
 SHARES = {"bank_racy": ["--quantum", "10000"]}
 INPUTS = {"probes": ["0", "5"], "programs": ["5", "3", "9", "1", "7", "12", "2", "8"]}
@@ -56,6 +61,27 @@ def rows(kind):
             name, outcome, rest = line.split(" ", 2)
             found[name] = (outcome, rest.encode().decode("unicode_escape"))
     return found
+
+
+def marks(kind, name, word=r"\w+"):
+    """The numbers of the lines of a source behind which this word stands as a mark."""
+    lines = enumerate(read(f"{EXAMPLES}/{source(kind, name)}").split("\n"), 1)
+    return [number for number, line in lines if re.search(rf"// {word} here$", line)]
+
+
+def lines_with_code():
+    """The kept lines of clang's line tables, by name."""
+    rows = (line.split() for line in read(f"{HERE}/lines.txt").splitlines() if not line.startswith("#"))
+    return {name: {int(it) for it in lines} for name, *lines in rows}
+
+
+def line_table(name, folder):
+    """The lines of a probe that have code in a native build, as objdump reads clang's line table."""
+    file = source("probes", name)
+    words = [driver.compiler(), "-w", "-O0", "-g", f"-I{EXAMPLES}", "-c", "-o", f"{folder}/lines.o", f"{EXAMPLES}/{file}"]
+    driver.run(words)
+    table = driver.run(["objdump", "--dwarf=decodedline", f"{folder}/lines.o"])
+    return sorted({int(it) for it in re.findall(rf"^{name}\.c\s+(\d+) ", table, re.M)} - {0})
 
 
 def compiled(kind, name, flags):
@@ -97,12 +123,22 @@ def make(kind):
     os.makedirs(f"{HERE}/{kind}", exist_ok=True)
     with tempfile.TemporaryDirectory() as folder:
         for name in names(kind):
-            text = compiled(kind, name, ["-O0"])
+            text = compiled(kind, name, ["-O0", "-g"] if marks(kind, name) else ["-O0"])
             write(f"{HERE}/{kind}/{name}.ll", text)
             if kind == "programs":
                 write(f"{EXAMPLES}/{name}.ll", rewritten(text))
             lines.append(outcome(kind, name, text, folder))
     write(f"{HERE}/{kind}.txt", "\n".join(lines) + "\n")
+
+
+def make_lines():
+    """Writes the lines that have code, from a native build's line table and from nothing of the rules."""
+    lines = ["# made by kept.py: the lines that have code, of each probe that a trap ends"]
+    with tempfile.TemporaryDirectory() as folder:
+        for name in names("probes"):
+            if marks("probes", name, "trap"):
+                lines.append(" ".join([name, *map(str, line_table(name, folder))]))
+    write(f"{HERE}/lines.txt", "\n".join(lines) + "\n")
 
 
 def make_library():
@@ -113,4 +149,5 @@ def make_library():
 if __name__ == "__main__":
     make_library()
     make("probes")
+    make_lines()
     make("programs")

@@ -3,7 +3,7 @@
 import os
 import re
 
-from module import Refused, module_of, name_in
+from module import Call, Refused, is_call, module_of, name_in
 
 HERE = os.path.dirname(os.path.abspath(__file__))
 # what the accepted language knows by itself
@@ -36,7 +36,7 @@ def append(module):
     source = library()
     functions = {it.name: it for it in source.functions}
     globals_ = {name_in(line): line for line in source.globals}
-    have = module.defined() | {name_in(line) for line in module.globals}
+    have = module.defined() | {name_in(line) for line in module.globals if not re.search(r" external ", line)}
     texts = [body(it) for it in module.functions] + module.globals
     missing, unknown, uses_types = named_in("\n".join(texts)) - have, set(), False
     while missing:
@@ -76,6 +76,7 @@ CURES = {
     "getchar": "a program's input is numbers: take pg_in(i) and pg_in_len()",
     "fopen": "files are left out",
     "fprintf": "print by printf, puts or pg_out: there is one output",
+    "fputs": "print by printf, puts or pg_out: there is one output",
     "stderr": "print by printf, puts or pg_out: there is one output",
     "stdout": "print by printf, puts or pg_out: there is one output",
     "time": "time is left out: hand it in as a number of the input",
@@ -101,7 +102,16 @@ CURES = {
 }
 
 
-def refuse_unknown(names):
+def first_use(module, name):
+    """The first line of a function that names this global, else the first global's."""
+    lines = [line for function in module.functions for line in function.lines] + module.globals
+    return next((line for line in lines if name in named_in(line)), None)
+
+
+def refuse_unknown(module, names):
     for name in names:
-        cure = CURES.get(name.removeprefix("__isoc99_").removeprefix("__isoc23_"), "write it in C beside the program")
-        raise Refused(f"{name} is called and nothing defines it: {cure}")
+        line = first_use(module, name)
+        is_called = line is not None and is_call(line) and Call(line).name == name
+        how, cure = ("called", "add the C file that defines it, or write it") if is_called else ("used", "add the C file that defines it")
+        cure = CURES.get(name.removeprefix("__isoc99_").removeprefix("__isoc23_"), cure)
+        raise Refused(f"{name} is {how} and nothing defines it: {cure}", line)

@@ -5,15 +5,28 @@ A rule of the driver changes lines of these items. First of all each value witho
 """
 
 import re
+from contextlib import contextmanager
 
 
 class Refused(Exception):
-    """The program can't be made to fit: the sentence says why, and what helps."""
+    """The program can't be made to fit: the sentence says why, and what helps; the line is that of the compiler's text
+    that it is about, from which its place in C is told."""
 
     def __init__(self, sentence, line=None):
         super().__init__(sentence)
         self.sentence = sentence
         self.line = line
+        self.place = None
+
+
+@contextmanager
+def refusals_at(line):
+    """A refusal within is about this line of the compiler's text, where it names none itself."""
+    try:
+        yield
+    except Refused as it:
+        it.line = it.line or line
+        raise
 
 
 class Function:
@@ -48,6 +61,16 @@ class Module:
     def defined(self):
         return {function.name for function in self.functions}
 
+    def change_lines(self, change):
+        """Puts for each line of a function those that a rule gives for it; they keep its place in C."""
+        for function in self.functions:
+            lines = []
+            for line in function.lines:
+                with refusals_at(placed(line, function)):
+                    new = change(function, line)
+                lines += new if new == [line] else [with_place_of(line, it) for it in new]
+            function.lines = lines
+
     def type_of(self, name):
         """The text of a named type."""
         for line in self.types:
@@ -55,6 +78,25 @@ class Module:
             if at == name:
                 return body
         raise Refused(f"the type {name} isn't defined in this file (an incomplete type has no size)")
+
+
+PLACE = re.compile(r", !dbg !\d+")
+
+
+def with_place_of(line, new):
+    """A new instruction with the place in C of the one that it stands for."""
+    place = PLACE.search(line)
+    return new + place[0] if place and not new.endswith(":") and not PLACE.search(new) else new
+
+
+def placed(line, function):
+    """A line that has a place in C: this one, or the head of its function."""
+    return line if PLACE.search(line) else function.head
+
+
+def without_names(text):
+    """A text without strings, and with one name in place of all: what is left are the language's own words."""
+    return re.sub(r"([%@])[-\w$.]+", r"\1_", re.sub(r'"[^"]*"', "_", text))
 
 
 def name_in(text):

@@ -75,20 +75,22 @@ RULES = {"pthread_once": (1, "pg.once.", once), "qsort": (3, "pg.sort.", sort)}
 
 
 def rewrite(module):
-    made = {}
-    for function in module.functions:
-        for i, line in enumerate(function.lines):
-            if not is_call(line) or Call(line).name not in RULES or Call(line).name in module.defined():
-                continue
-            call = Call(line)
-            at, prefix, make = RULES[call.name]
-            found = re.fullmatch(r"ptr @([-\w$.]+)", plain(call.arguments[at]))
-            if not found:
-                raise Refused(f"{call.name} with a function that isn't named in the call")
-            if (found[1], prefix) not in made:
-                made[found[1], prefix] = make(found[1])
-            call.name = prefix + found[1]
-            del call.arguments[at]
-            call.before = re.sub(r"\(.*\)\s*$", "", call.before) + ("" if call.before.endswith(" ") else " ")
-            function.lines[i] = call.text()
+    made, defined = {}, module.defined()
+
+    def change(_, line):
+        if not is_call(line) or Call(line).name not in RULES or Call(line).name in defined:
+            return [line]
+        call = Call(line)
+        at, prefix, make = RULES[call.name]
+        found = re.fullmatch(r"ptr @([-\w$.]+)", plain(call.arguments[at]))
+        if not found:
+            raise Refused(f"{call.name} with a function that isn't named in the call")
+        if (found[1], prefix) not in made:
+            made[found[1], prefix] = make(found[1])
+        call.name = prefix + found[1]
+        del call.arguments[at]
+        call.before = re.sub(r"\(.*\)\s*$", "", call.before) + ("" if call.before.endswith(" ") else " ")
+        return [call.text()]
+
+    module.change_lines(change)
     module.functions += made.values()

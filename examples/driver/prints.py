@@ -132,11 +132,9 @@ def total(sets, counts, prints):
 
 def rewrite(module):
     prints, defined = Prints(module), module.defined()
-    for function in module.functions:
-        result = []
-        for line in function.lines:
-            if is_call(line) and Call(line).name == "printf" and "printf" not in defined:
-                result += prints.rewritten(Call(line))
-            else:
-                result.append(line)
-        function.lines = result
+
+    def change(_, line):
+        is_print = is_call(line) and Call(line).name == "printf" and "printf" not in defined
+        return prints.rewritten(Call(line)) if is_print else [line]
+
+    module.change_lines(change)

@@ -16,15 +16,20 @@ def uses(lines, name):
     return [line for line in lines if found.search(line)]
 
 
-def is_only_stored(lines, name):
-    """The register is stored into places on the stack that nothing else names, and isn't used otherwise."""
+def is_debug(line):
+    return "llvm.dbg." in line or "#dbg_" in line
+
+
+def reads_of(lines, name):
+    """The lines that read a parameter: it may be stored into places on the stack that nothing else names."""
+    found = []
     for line in uses(lines, name):
         stored = re.match(r"\s*store \S+ " + re.escape(name) + r", ptr (%[-\w$.]+)", line)
-        if "llvm.dbg." in line or "#dbg_" in line:
-            continue
-        if not stored or [it for it in uses(lines, stored[1]) if it != line and " = alloca " not in it and "llvm.dbg." not in it and "#dbg_" not in it]:
-            return False
-    return True
+        if stored:
+            found += [it for it in uses(lines, stored[1]) if it != line and " = alloca " not in it and not is_debug(it)]
+        elif not is_debug(line):
+            found.append(line)
+    return found
 
 
 def without_parameters(module):
@@ -35,8 +40,8 @@ def without_parameters(module):
         closed = closing(function.head, opened)
         names = [it.rsplit(" ", 1)[1] for it in split(function.head[opened + 1 : closed])]
         for name in names:
-            if not is_only_stored(function.lines, name):
-                raise Refused("main reads argc or argv: a program gets its numbers from pg_in and pg_in_len, and main has no parameters")
+            for line in reads_of(function.lines, name):
+                raise Refused("main reads argc or argv: a program gets its numbers from pg_in and pg_in_len, and main has no parameters", line)
             function.lines = [line for line in function.lines if line not in uses(function.lines, name)]
         function.head = function.head[: opened + 1] + function.head[closed:]
 
@@ -57,17 +62,14 @@ def ended(function, line, labels):
 
 def rewrite(module):
     without_parameters(module)
-    defined = module.defined()
-    for function in module.functions:
-        labels, result = [], []
-        for line in function.lines:
-            frozen = re.match(r"\s*(%[-\w$.]+) = freeze (.*)$", line)
-            if frozen:
-                result.append(same(frozen[1], frozen[2]))
-            elif is_call(line) and Call(line).name not in defined:
-                result += ended(function, line, labels)
-            else:
-                result.append(line)
-        function.lines = result
+    defined, labels = module.defined(), []
+
+    def change(function, line):
+        frozen = re.match(r"\s*(%[-\w$.]+) = freeze (.*)$", line)
+        if frozen:
+            return [same(frozen[1], frozen[2])]
+        return ended(function, line, labels) if is_call(line) and Call(line).name not in defined else [line]
+
+    module.change_lines(change)
     gone = r"@(exit|_exit|_Exit|quick_exit|abort)\("
     module.declared = [line for line in module.declared if not re.search(gone, line)]

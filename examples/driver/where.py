@@ -2,10 +2,13 @@
 
 import re
 
-from module import Refused
+from module import CALL, Refused, name_in
+from places import Places
 
 # lines that are no instruction and have no number
 DROPPED = re.compile(r"\s*(?:#dbg_|(?:%\S+ = )?(?:tail )?call .*@\"?llvm\.(?:lifetime|dbg)\.)")
+# so many C lines are told of the calls of a function that stands in no C file
+CALLS_TOLD = 4
 
 
 def instructions(text):
@@ -26,24 +29,48 @@ def instructions(text):
     return found
 
 
-def place_in_c(text, line):
-    """The C line of a line of the text, by its debug location, or None."""
-    found = re.search(r"!dbg !(\d+)", line)
-    place = found and re.search(rf"^!{found[1]} = (?:distinct )?!DILocation\(line: (\d+), column: (\d+)", text, re.M)
-    file = re.search(r'!DIFile\(filename: "([^"]*)"', text)
-    return f"{file[1] if file else 'the C file'}, line {place[1]}, column {place[2]}" if place else None
+def calls_in_c(found, lines, places, name):
+    """The places in C from which a function is called, through others that stand in no C file."""
+    reached, waiting, told = {name}, [name], []
+    while waiting:
+        callee = waiting.pop()
+        for function, number in found:
+            call = CALL.match(lines[number - 1])
+            if not call or call[4] != callee:
+                continue
+            place = places.of_line(lines[number - 1])
+            if place:
+                told.append(place)
+            elif function not in reached:
+                reached.add(function)
+                waiting.append(function)
+    return sorted({f"{it.file}:{it.line}" for it in told}, key=lambda it: (it.split(":")[0], int(it.split(":")[1])))
+
+
+def without_place(found, lines, places, function):
+    """What is told of an instruction that has no place in C."""
+    if not any("!DISubprogram(" in it for it in places.items.values()):
+        return "compile with -- -g to see the C line"
+    head = places.of_line(next(it for it in lines if it.startswith("define ") and f"@{function}(" in it))
+    if head:
+        return f"{head.file}, line {head.line}, where {function} begins"
+    calls = calls_in_c(found, lines, places, function)
+    if not calls:
+        return f"{function} stands in no C file"
+    more = ", .." if len(calls) > CALLS_TOLD else ""
+    return f"{function} is of the library and stands in no C file of yours; it is called from {', '.join(calls[:CALLS_TOLD])}{more}"
 
 
 def told(number, file):
-    with open(file, encoding="utf-8") as it:
+    with open(file, encoding="utf-8", errors="surrogateescape") as it:
         text = it.read()
-    found = instructions(text)
+    found, lines, places = instructions(text), text.split("\n"), Places(text)
     if number >= len(found):
         raise Refused(f"{file} has {len(found)} instructions, numbered from 0")
     function, line = found[number]
-    words = text.split("\n")[line - 1]
-    place = place_in_c(text, words)
-    return f"{file}:{line}: in {function}: {words.strip()}\n{place or 'compile with -- -g to see the C line'}"
+    place = places.of_line(lines[line - 1])
+    in_c = f"{place.file}, line {place.line}" + (f", column {place.column}" if place.column else "") if place else None
+    return f"{file}:{line}: in {function}: {lines[line - 1].strip()}\n{in_c or without_place(found, lines, places, function)}"
 
 
 CURES = {
@@ -52,14 +79,19 @@ CURES = {
     "BadSignature": "a function of the known ones is declared with other types: include its header",
     "UnknownName": "a name is used that nothing defines: add the C file that defines it",
     "WrongType": "a value of a type that is left out: docs/C.md has the table",
+    "NoMain": "there is no main: add the C file that has it",
 }
 
 
 def cure_of(refusal, text):
-    """One sentence of cure for a refusal line of the program, with the line of the text."""
+    """A refusal line of the program as one of the rules: with its line of the text, its place in C, and a cure."""
     found = re.search(r"(\d+):(\d+)", refusal)
-    kind = next((it for it in CURES if it in refusal), None)
+    cure = next((CURES[it] for it in CURES if it in refusal), "docs/C.md has the forms that are accepted")
     lines = text.split("\n")
-    line = lines[int(found[1]) - 1].strip() if found and int(found[1]) <= len(lines) else ""
-    place = found and place_in_c(text, lines[int(found[1]) - 1])
-    return f"{place + ': ' if place else ''}{CURES.get(kind, 'docs/C.md has the forms that are accepted')}" + (f" (at: {line[:100]})" if line else "")
+    if not found or int(found[1]) > len(lines) or "NoMain" in refusal:
+        return Refused(f"{refusal}: {cure}")
+    line = lines[int(found[1]) - 1]
+    # a declaration has no place in C, and its first call has one
+    call = re.escape("@" + name_in(line) + "(")
+    used = next((it for it in lines if re.search(rf" call .*{call}", it)), line) if line.startswith("declare ") else line
+    return Refused(f"{refusal}: {cure} (at: {line.strip()[:100]})", used)

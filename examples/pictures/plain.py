@@ -86,6 +86,7 @@ def drawn(picture):
     lines = [picture.title(), "", *picture_lines(picture), ""]
     if picture.races:
         lines += ["─╮ a race: both are turns, in this order" + ("; ┆ one of several that it may be" if not all(it.is_sure for it in picture.races) else "")]
+        lines += list(dict.fromkeys(f"  {it.named[0]}: {it.named[1]}; {it.named[2]}" for it in picture.races if it.named))
     if picture.checks:
         lines += ["What must come out the same for an input that uses these turns again:"]
         lines += ["  ◆N is a branch at instruction N, pinned to its edge; ●N a load or store there with its exact address"]

@@ -2,6 +2,7 @@
 
 from collections import namedtuple
 
+import naming
 import walk
 from arcs import arcs
 from shown import GROUP_OF, NotShown
@@ -12,8 +13,8 @@ from texts import place_name
 Box = namedtuple("Box", "first last lane group kind object exact more")
 # the decisions that stand in a lane before its next box, or among the turns of that box
 Marks = namedtuple("Marks", "lane decisions")
-# an arc between two rows; a thin line from a create to its start, or from an exit to its join
-Race = namedtuple("Race", "one other is_sure more")
+# an arc between two rows, with its variable and accesses as words; a thin line from a create to its start, or from an exit to its join
+Race = namedtuple("Race", "one other is_sure named more")
 Link = namedtuple("Link", "one other")
 # all decisions at one instruction: how many, and the lines that tell of them
 Check = namedtuple("Check", "kind instr steps told")
@@ -38,7 +39,7 @@ class Picture:
         self.rows = list(self.make_rows())
         self.row_of = {n: i for i, row in enumerate(self.rows) if isinstance(row, Box) for n in range(row.first, row.last + 1)}
         self.races = [
-            Race(self.row_of[it.one], self.row_of[it.other], it.is_sure, tuple(self.told_race(race) for race in it.races))
+            Race(self.row_of[it.one], self.row_of[it.other], it.is_sure, self.named(it), tuple(self.told_race(race) for race in it.races))
             for it in arcs(shown, program.written() if program else {})
         ]
         self.links = list(self.make_links())
@@ -119,6 +120,10 @@ class Picture:
                 yield Link(self.row_of[turn.number], self.row_of[starts[turn.object]])
             if turn.kind == "join" and turn.object in exits:
                 yield Link(self.row_of[exits[turn.object]], self.row_of[turn.number])
+
+    def named(self, arc):
+        """The variable, the lines and the threads of a race; nothing without the program."""
+        return naming.told(arc, self.shown.turns, self.program) if self.program else ()
 
     def told_race(self, race):
         return f"race at instruction {race.instr}: steps {race.step} and {race.other} of the recorded run"

@@ -154,7 +154,7 @@ class Drawing:
     def races(self):
         for race in self.picture.races:
             path, ends, kind = *self.ends(race), "race" if race.is_sure else "race perhaps"
-            more = [*race.more, *([] if race.is_sure else ["(one of several pairs of turns that this may be)"])]
+            more = [*race.named, *race.more, *([] if race.is_sure else ["(one of several pairs of turns that this may be)"])]
             yield f'<g>{tell(more)}<path class="{kind}" d="{path}"/>'
             yield f"{ends}</g>"
 

@@ -7,7 +7,8 @@ from collections import namedtuple
 
 sys.path.insert(0, os.path.join(os.path.dirname(os.path.dirname(os.path.abspath(__file__))), "driver"))
 
-from where import DROPPED, place_in_c
+from places import Places
+from where import DROPPED
 
 NAME = r'(?:"[^"]*"|[-\w$.]+)'
 EVENTS = {
@@ -67,8 +68,8 @@ class Program:
     """A program text, read line by line as clang writes it."""
 
     def __init__(self, text, name):
-        self.text = text
         self.name = name
+        self.c_places = Places(text)
         self.lines = text.split("\n")
         self.instrs = []
         self.entries = {}
@@ -174,9 +175,9 @@ class Program:
     def told(self, instr):
         """An instruction's line, with its place in C where the text has it."""
         line = self.lines[self.instrs[instr].line - 1]
-        place = place_in_c(self.text, line)
+        place = self.c_places.of_line(line)
         text = re.sub(r", !dbg !\d+|, !llvm\.loop !\d+|, align \d+", "", without_comment(line))
-        return text + (f"   ({place})" if place else "")
+        return text + (f"   ({place.file}, line {place.line}, column {place.column})" if place else "")
 
 
 def place_name(place, program):

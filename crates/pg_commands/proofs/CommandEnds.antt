@@ -1,5 +1,5 @@
 -- How a command ends, from what its status says.
-use Rattle.std.proofs.Common.{◌≡◌, ◌∙◌, refl, sym, subst, ℕ, ◌≤◌, ◌⊎◌, inl, inr, List, [], Option, Some, None, IfSome, arith}
+use Rattle.std.proofs.Common.{◌≡◌, ◌∙◌, refl, sym, subst, ℕ, ◌≤◌, ◌⊎◌, inl, inr, Any, List, [], ◌∷◌, Option, Some, None, IfSome, arith}
 use Rattle.pg_ir.specs.Program.{NumberedProgram}
 use Rattle.pg_io.specs.Streams.{AppendsFront, TakesAtMost}
 use Rattle.pg_commands_words.specs.Commands.{Meaning}
@@ -26,12 +26,12 @@ Says w m OutOfMemory = LacksMemory w m
 
 -- the counts of faults, where a status tells which rose
 pub record Counts (w : World) (status : Status) : Type 0 where
-  pub fetches : (name : List ℕ) → (status ≡ ShelfFault) ⊎ (w.fetches_after name ≡ w.fetches_before name)
-  pub reads : (status ≡ ReadFault) ⊎ (w.reads_after ≡ w.reads_before)
-  pub writes : (status ≡ WriteFault) ⊎ (w.writes_after ≡ w.writes_before)
+  pub fetches : (name : List ℕ) → (status ≡ ShelfFault) ⊎ (w.shelf.fetches_after name ≡ w.shelf.fetches_before name)
+  pub reads : (status ≡ ReadFault) ⊎ (w.source.reads_after ≡ w.source.reads_before)
+  pub writes : (status ≡ WriteFault) ⊎ (w.sink.writes_after ≡ w.sink.writes_before)
 
 pub ends_as : (w : World) (m : Meaning) (status : Status) → Says w m status → Counts w status
-    → TakesAtMost w.rest_before w.rest_after (most_taken m) → (NoFault w m → IsDue w status m) → EndsAs w m status
+    → TakesAtMost w.source.rest_before w.source.rest_after (most_taken m) → (NoFault w m → IsDue w status m) → EndsAs w m status
 ends_as w m status says counts takes due = record {
   no_usage = λ e. subst (Says w m) e says;
   done = λ e. subst (Says w m) e says;
@@ -48,11 +48,13 @@ ends_as w m status says counts takes due = record {
   due = due;
 }
 
--- ---- what was told
+-- ---- names
 
-pub some_map : (o : Option (List ℕ)) (P Q : List ℕ → Type 0) → ((t : List ℕ) → P t → Q t) → IfSome o P → IfSome o Q
-some_map None P Q f h = tt
-some_map (Some t) P Q f h = f t h
+-- what holds of the one name holds of some name
+pub any_one : {X : Type 0} (P : X → Type 0) (x : X) → P x → Any P (x ∷ [])
+any_one P x h = (0, x, omega arith, refl, h)
+
+-- ---- what was told
 
 pub some_all : (o : Option (List ℕ)) (P : List ℕ → Type 0) → ((t : List ℕ) → P t) → IfSome o P
 some_all None P f = tt
@@ -116,8 +118,8 @@ handed_on text due old new before after status is h (inl e) = absurd (subst IsOt
 handed_on text due old new before after status is h (inr e) = absurd (subst IsOther e (other text due old new before after status is h))
 
 -- nothing failed
-pub none_failed : (w : World) (status : Status) → ((name : List ℕ) → w.fetches_after name ≡ w.fetches_before name) → w.reads_after ≡ w.reads_before
-    → w.writes_after ≡ w.writes_before → Counts w status
+pub none_failed : (w : World) (status : Status) → ((name : List ℕ) → w.shelf.fetches_after name ≡ w.shelf.fetches_before name) → w.source.reads_after ≡ w.source.reads_before
+    → w.sink.writes_after ≡ w.sink.writes_before → Counts w status
 none_failed w status fetches reads writes = record { fetches = λ name. inr (fetches name); reads = inr reads; writes = inr writes }
 
 -- a count stayed, since nothing else can be

@@ -17,30 +17,30 @@ use Rattle.pg_commands.proofs.CommandEnds.{Says, ends_as, by_reply, due_reply, f
 use Rattle.pg_commands.proofs.ShowEnds.{Unread, Fetches}
 
 said : (w : World) (number : ℕ) (status : Status) (written : List ℕ) → IsReplyStatus status → IsReply (IsTrial trial_program number) trial_program status written
-    → Appends w.taken_before w.taken_after written → Says w (trial number) status
+    → Appends w.sink.taken_before w.sink.taken_after written → Says w (trial number) status
 said w number status written is r app =
     by_reply (Says w (trial number)) (IsTrial trial_program number) trial_program written status is r
     (λ t. record { written = written; is_text = t; appended = app })
     (λ l. record { written = written; is_text = l; appended = app })
 
-trial_replied : (w : World) (number : ℕ) (status : Status) (written : List ℕ) → Unread w → Fetches w → w.writes_after ≡ w.writes_before
-    → IsReplyStatus status → IsReply (IsTrial trial_program number) trial_program status written → Appends w.taken_before w.taken_after written
+trial_replied : (w : World) (number : ℕ) (status : Status) (written : List ℕ) → Unread w → Fetches w → w.sink.writes_after ≡ w.sink.writes_before
+    → IsReplyStatus status → IsReply (IsTrial trial_program number) trial_program status written → Appends w.sink.taken_before w.sink.taken_after written
     → EndsAs w (trial number) status
 trial_replied w number status written unread fetches writes is r app =
     ends_as w (trial number) status (said w number status written is r app) (none_failed w status fetches unread.reads writes) unread.takes
     (λ n. due_reply (IsTrial trial_program number) trial_program written status (λ o. (o.program, o.accepted)) is r)
 
-trial_cut : (w : World) (number : ℕ) (status : Status) (written : List ℕ) → Unread w → Fetches w → Rose w.writes_before w.writes_after
-    → IsReplyStatus status → IsReply (IsTrial trial_program number) trial_program status written → AppendsFront w.taken_before w.taken_after written
+trial_cut : (w : World) (number : ℕ) (status : Status) (written : List ℕ) → Unread w → Fetches w → Rose w.sink.writes_before w.sink.writes_after
+    → IsReplyStatus status → IsReply (IsTrial trial_program number) trial_program status written → AppendsFront w.sink.taken_before w.sink.taken_after written
     → EndsAs w (trial number) WriteFault
 trial_cut w number status written unread fetches rose is r cut =
     ends_as w (trial number) WriteFault
-    (rose, front_of (IsTrial trial_program number) trial_program written w.taken_before w.taken_after status is r cut)
+    (rose, front_of (IsTrial trial_program number) trial_program written w.sink.taken_before w.sink.taken_after status is r cut)
     (record { fetches = λ name. inr (fetches name); reads = inr unread.reads; writes = inl refl }) unread.takes (λ n. absurd (n.writes rose))
 
 -- the reply was handed to the sink
 pub trial_written : (w : World) (number : ℕ) (due : Status) (written : List ℕ) (status : Status) → Unread w → Fetches w → IsReplyStatus due
-    → IsReply (IsTrial trial_program number) trial_program due written → IsWritten written due w.taken_before w.taken_after w.writes_before w.writes_after status
+    → IsReply (IsTrial trial_program number) trial_program due written → IsWritten written due w.sink.taken_before w.sink.taken_after w.sink.writes_before w.sink.writes_after status
     → EndsAs w (trial number) status
 trial_written w number due written status unread fetches is r (inl h) =
     subst (EndsAs w (trial number)) (sym h.0) (trial_replied w number due written unread fetches h.2 is r h.1)

@@ -3,7 +3,8 @@ ghost use Rattle.std.specs.Prelude.{◌≡◌, ◌≤◌, ◌<◌, ◌+◌, ◌�
 ghost use Rattle.pg_io.specs.Faults.{Rose};
 ghost use Rattle.pg_io.specs.Streams.{TakesAtMost};
 ghost use Rattle.pg_num.specs.declared.limits.TheConstants.{PROGRAM_TEXT_LIMIT, QUANTUM_LIMIT};
-ghost use Rattle.pg_commands.specs.Commands.{EndsAs, world};
+ghost use Rattle.pg_session.specs.Texts.{HasBytes};
+ghost use Rattle.pg_commands.specs.Commands.{EndsAs, shelf_change, sink_change, source_change, world};
 ghost use Rattle.pg_commands.specs.Replies.{IsReply, IsReplyStatus, unread};
 ghost use Rattle.pg_commands.specs.Texts.{IsOnceText};
 ghost use Rattle.pg_commands.specs.declared.once.NoReply.TheVariants.{OutOfMemory};
@@ -74,7 +75,7 @@ fn read_reply<S: Source>(alloc: Global, command: &Once, src: &mut S) -> Result<R
     requires least { 1 ≤ command.now.quantum }
     requires most { command.now.quantum ≤ QUANTUM_LIMIT }
     ensures status { IfOk result (λ r. IsReplyStatus r.status) }
-    ensures reply { IfOk result (λ r. IfSome (S.rest src.old) (λ text.
+    ensures reply { IfOk result (λ r. HasBytes (S.rest src.old) (λ text.
         IsReply (IsOnceText text command.now.quantum command.now.numbers.items) text r.status r.text.items)) }
     ensures takes { TakesAtMost (S.rest src.old) (S.rest src.new) (PROGRAM_TEXT_LIMIT + 1) }
     ensures count_stays { OnOk result (S.faults src.new ≡ S.faults src.old) }
@@ -104,8 +105,8 @@ pub(crate) fn once<S: Source, K: Sink>(
     requires least { 1 ≤ command.now.quantum }
     requires most { command.now.quantum ≤ QUANTUM_LIMIT }
     ensures ends { (texts : List ℕ → Option (List ℕ)) (fetches : List ℕ → ℕ) → EndsAs
-        (world texts fetches fetches (S.rest src.old) (S.rest src.new) (S.faults src.old) (S.faults src.new)
-        (K.taken out.old) (K.taken out.new) (K.faults out.old) (K.faults out.new))
+        (world (shelf_change texts fetches fetches) (source_change (S.rest src.old) (S.rest src.new) (S.faults src.old) (S.faults src.new))
+        (sink_change (K.taken out.old) (K.taken out.new) (K.faults out.old) (K.faults out.new)))
         (once command.now.quantum command.now.numbers.items) result }
     ensures keeps { (result ≡ Status.ReadFault) ⊎ (result ≡ Status.OutOfMemory) → out.new ≡ out.old }
 {

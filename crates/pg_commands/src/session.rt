@@ -1,6 +1,6 @@
 //! The call that does all that the program does.
 ghost use Rattle.std.specs.Prelude.{◌≡◌, ◌⊎◌, ℕ, List, map, string_bytes};
-ghost use Rattle.pg_commands.specs.Commands.{Ends, IsSession, world};
+ghost use Rattle.pg_commands.specs.Commands.{Ends, IsSession, shelf_change, sink_change, source_change, world};
 
 use crate::once::once;
 use crate::serve::serve;
@@ -36,8 +36,9 @@ pub fn peregrine<S: Source, K: Sink, F: Shelf>(
     shelf: &mut F,
     out: &mut K,
 ) -> Status
-    ensures ends { Ends (world (F.text shelf.old) (F.faults shelf.old) (F.faults shelf.new) (S.rest src.old) (S.rest src.new) (S.faults src.old) (S.faults src.new)
-        (K.taken out.old) (K.taken out.new) (K.faults out.old) (K.faults out.new))
+    ensures ends { Ends (world (shelf_change (F.text shelf.old) (F.faults shelf.old) (F.faults shelf.new))
+        (source_change (S.rest src.old) (S.rest src.new) (S.faults src.old) (S.faults src.new))
+        (sink_change (K.taken out.old) (K.taken out.new) (K.faults out.old) (K.faults out.new)))
         (map string_bytes words.now) result }
     ensures usage_calls_nothing { result ≡ Status.Usage → (src.new ≡ src.old) × (shelf.new ≡ shelf.old) × (out.new ≡ out.old) }
     ensures fault_keeps_sink { (result ≡ Status.ReadFault) ⊎ (result ≡ Status.OutOfMemory) →

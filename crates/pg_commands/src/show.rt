@@ -6,7 +6,7 @@ ghost use Rattle.pg_law_runs.specs.Cuts.{CanRun};
 ghost use Rattle.pg_commands_words.specs.Commands.{show};
 ghost use Rattle.pg_session_runner.specs.Runs.{runs_of, shown};
 ghost use Rattle.pg_session.specs.Shows.{IsShowText};
-ghost use Rattle.pg_commands.specs.Commands.{EndsAs, Fetched, IsShown, world};
+ghost use Rattle.pg_commands.specs.Commands.{EndsAs, Fetched, IsShown, shelf_change, sink_change, source_change, world};
 ghost use Rattle.pg_commands.specs.Replies.{IsReply, IsReplyStatus};
 
 use crate::programs::{Loaded, NoProgram, fetch_program};
@@ -70,8 +70,8 @@ pub(crate) fn show<K: Sink, F: Shelf>(
     requires least { 1 ≤ command.now.quantum }
     requires most { command.now.quantum ≤ QUANTUM_LIMIT }
     requires few { length command.now.numbers.items ≤ NUMBERS_LIMIT }
-    ensures ends { (rest : Option (List ℕ)) (reads : ℕ) → EndsAs (world (F.text shelf.old) (F.faults shelf.old) (F.faults shelf.new) rest rest reads reads
-        (K.taken out.old) (K.taken out.new) (K.faults out.old) (K.faults out.new))
+    ensures ends { (rest : Option (List ℕ)) (reads : ℕ) → EndsAs (world (shelf_change (F.text shelf.old) (F.faults shelf.old) (F.faults shelf.new))
+        (source_change rest rest reads reads) (sink_change (K.taken out.old) (K.taken out.new) (K.faults out.old) (K.faults out.new)))
         (show (string_bytes command.now.file) command.now.quantum command.now.numbers.items) result }
     ensures keeps { (result ≡ Status.ReadFault) ⊎ (result ≡ Status.OutOfMemory) → out.new ≡ out.old }
     ensures texts_stay { (name : List ℕ) → F.text shelf.new name ≡ F.text shelf.old name }

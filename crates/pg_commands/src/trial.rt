@@ -7,7 +7,7 @@ ghost use Rattle.pg_session_runner.specs.Runs.{entry_admits, runs_of};
 ghost use Rattle.pg_session.specs.Trials.{IsTrialText};
 ghost use Rattle.pg_session_trial.specs.Program.{trial_program};
 ghost use Rattle.pg_session_trial.specs.declared.line.TheConstants.{TRIAL_LIMIT};
-ghost use Rattle.pg_commands.specs.Commands.{EndsAs, IsTrial, world};
+ghost use Rattle.pg_commands.specs.Commands.{EndsAs, IsTrial, shelf_change, sink_change, source_change, world};
 ghost use Rattle.pg_commands.specs.Replies.{IsReply, IsReplyStatus};
 
 use crate::programs::{Loaded, load};
@@ -53,8 +53,8 @@ fn trial_reply(alloc: Global, number: u64) -> Result<Reply, AllocError>
 pub(crate) fn trial<K: Sink>(alloc: Global, number: u64, out: &mut K) -> Status
     requires { number ≤ TRIAL_LIMIT }
     ensures ends { (texts : List ℕ → Option (List ℕ)) (fetches : List ℕ → ℕ) (rest : Option (List ℕ)) (reads : ℕ) → EndsAs
-        (world texts fetches fetches rest rest reads reads
-        (K.taken out.old) (K.taken out.new) (K.faults out.old) (K.faults out.new))
+        (world (shelf_change texts fetches fetches) (source_change rest rest reads reads)
+        (sink_change (K.taken out.old) (K.taken out.new) (K.faults out.old) (K.faults out.new)))
         (trial number) result }
     ensures keeps { (result ≡ Status.ReadFault) ⊎ (result ≡ Status.OutOfMemory) → out.new ≡ out.old }
 {

@@ -5,7 +5,7 @@ use Rattle.std.specs.Prelude.{nat_lt, slice_get, All, OnErr, Result, Ok, Err}
 use Rattle.pg_cache.specs.Kept.{Kept, first_from, oldest, value_of, with_value}
 use Rattle.std.proofs.lemmas.List.Elements.{All-drop, All-head, All-nil, All-push, All-tail}
 use Rattle.pg_session.specs.Progress.{Stands}
-use Rattle.pg_session.specs.Sessions.{Answer, Answers, AnswersAll, AnswersLine, IsEntryOf, IsExact, Runs, begin, by_recording, by_refusal, by_reuse, found}
+use Rattle.pg_session.specs.Sessions.{Answer, Answers, AnswersAll, AnswersLine, IsEntryOf, IsExact, Runs, begin, by_recording, by_refusal, by_reuse, found, of_recording}
 
 -- a number that is found is that of a value, whose answer is true
 pub record IsAt {X : Type 0} (test : X → Bool) (xs : List X) (from k : ℕ) : Type 0 where
@@ -61,7 +61,7 @@ kept_value admits kept input k e =
 
 -- ---- the entries stay those of the program
 
-at_place : {X : Type 0} (P : X → Type 0) (xs : List X) (k : ℕ) (x : X) → All P xs → slice_get xs k ≡ Some x → P x
+pub at_place : {X : Type 0} (P : X → Type 0) (xs : List X) (k : ℕ) (x : X) → All P xs → slice_get xs k ≡ Some x → P x
 at_place P [] zero x h e = absurd cc
 at_place P [] (suc k) x h e = absurd cc
 at_place P (y ∷ ys) zero x h e = subst P (same_some y x e) (All-head P y ys h)
@@ -80,7 +80,7 @@ stands_after : {M : Type 0} (admits : M → List ℤ → Bool) (runs : Runs M) (
     → Answers admits runs kept input answer next → Stands runs kept → Stands runs next
 stands_after admits runs kept next input answer (by_reuse h) s = subst (Stands runs) (sym h.stays) s
 stands_after admits runs kept next input answer (by_recording h) s =
-    subst (Stands runs) (sym h.grows) (stands_with runs kept h.entry s (record { input = input; output = answer.output; end = h.end; recording = h.recording }))
+    subst (Stands runs) (sym h.grows) (stands_with runs kept h.entry s (of_recording (record { input = input; output = answer.output; end = h.end; recording = h.recording })))
 stands_after admits runs kept next input answer (by_refusal h) s = subst (Stands runs) (sym h.stays) s
 
 pub stands_line : {M : Type 0} (admits : M → List ℤ → Bool) (runs : Runs M) (kept next : Kept M) (input : Option (List ℤ)) (answer : Answer)

@@ -11,11 +11,10 @@ use Rattle.pg_cache.specs.Kept.{Kept}
 use Rattle.pg_num.specs.declared.limits.TheConstants.{LINE_LIMIT, SESSION_INPUT_LIMIT}
 use Rattle.pg_session.specs.Lines.{begun_behind, ended_lines, input_of, last_line, lines_of}
 use Rattle.pg_session.specs.Progress.{Answered, CutShort, HasAll, HasAnswered, HasCut, HasTaken, Stands, begun_after, inputs_after}
-use Rattle.pg_session.specs.Sessions.{AnswersAll, Runs, answer_text, begin}
-use Rattle.pg_session.specs.Texts.{Serves, ServesAll, ServesFront, ServesLimit, ServesTaken, inputs_of}
-use Rattle.pg_session.proofs.KeptEntries.{stands_begin}
+use Rattle.pg_session.specs.Sessions.{AnswersAll, Runs, answer_text}
+use Rattle.pg_session.specs.Texts.{HasBytes, KeepsAll, Serves, ServesAll, ServesFront, ServesLimit, ServesTaken, inputs_of}
 use Rattle.pg_session.proofs.PieceBytes.{inserted_within, stands_answered}
-use Rattle.pg_session.proofs.SessionSteps.{answered_then, begun_kept, cut_none, cut_then, input_cut, inputs_ended, inputs_more}
+use Rattle.pg_session.proofs.SessionSteps.{answered_then, begun_kept, cut_then, input_cut, inputs_ended, inputs_more}
 
 -- the input of a line that the end of the input ends
 last_some : (b : List ℕ) → (take (LINE_LIMIT + 1) b ≡ [] → ⊥) → map input_of (last_line b) ≡ input_of (take (LINE_LIMIT + 1) b) ∷ []
@@ -76,19 +75,10 @@ at_end_if : (rest : Option (List ℕ)) → IfSome rest (λ bytes. bytes ≡ []) 
 at_end_if None h = tt
 at_end_if (Some ys) h = h
 
-whole_of : (left rest : Option (List ℕ)) (bytes : List ℕ) → Consumes left rest bytes → IsAtEnd rest → IfSome left (λ input. input ≡ bytes)
+whole_of : (left rest : Option (List ℕ)) (bytes : List ℕ) → Consumes left rest bytes → IsAtEnd rest → IfSome left (λ input. bytes ≡ input)
 whole_of None rest bytes h e = tt
 whole_of (Some xs) None bytes h e = absurd h
-whole_of (Some xs) (Some ys) bytes h e = h ∙ ap (λ l. bytes ++ l) e ∙ append-nil bytes
-
--- what holds of all bytes holds of the input
-if_whole : (left : Option (List ℕ)) (bytes : List ℕ) (P : List ℕ → Type 0) → IfSome left (λ input. input ≡ bytes) → P bytes → IfSome left P
-if_whole None bytes P e h = tt
-if_whole (Some xs) bytes P e h = subst P (sym e) h
-
-if_any : (left : Option (List ℕ)) (P : List ℕ → Type 0) → ((input : List ℕ) → P input) → IfSome left P
-if_any None P h = tt
-if_any (Some xs) P h = h xs
+whole_of (Some xs) (Some ys) bytes h e = sym (h ∙ ap (λ l. bytes ++ l) e ∙ append-nil bytes)
 
 -- a call that takes none leaves what was taken
 consumes_still : (left rest next : Option (List ℕ)) (bytes : List ℕ) → Consumes left rest bytes → TakesAtMost rest next 0 → Consumes left next bytes
@@ -97,50 +87,53 @@ consumes_still left rest next bytes h t =
     let none : t.0 ≡ [] = is_none t.0 (omega (arith, w)) in
     subst (Consumes left next) (ap (λ l. bytes ++ l) none ∙ append-nil bytes) (consumes-append left rest next bytes t.0 h t.1)
 
-module _ {M : Type 0} (admits : M → List ℤ → Bool) (runs : Runs M) (before after : Option (List ℕ)) where
+module _ {M : Type 0} (admits : M → List ℤ → Bool) (runs : Runs M) (first : Kept M) (before after : Option (List ℕ)) where
   -- inputs that were answered are a session
-  pub serves : (lines : List (List ℕ)) (inputs : List (Option (List ℤ))) (kept : Kept M) → inputs ≡ inputs_of lines → Answered admits runs begin inputs kept before after
-      → Serves admits runs lines before after
+  pub serves : (lines : List (List ℕ)) (inputs : List (Option (List ℤ))) (kept : Kept M) → inputs ≡ inputs_of lines → Answered admits runs first inputs kept before after
+      → Serves admits runs first lines before after
   serves lines inputs kept e h = record {
     text = flat_map answer_text h.answers;
-    session = record { answers = h.answers; kept = kept; session = subst (λ l. AnswersAll admits runs begin l h.answers kept) e h.session; whole = refl };
+    session = record { answers = h.answers; kept = kept; session = subst (λ l. AnswersAll admits runs first l h.answers kept) e h.session; whole = refl };
     appended = h.written;
   }
 
   -- another byte is there behind as many as a session takes
-  pub serves_limit : (left rest : Option (List ℕ)) (bytes : List ℕ) → Consumes left rest bytes → IfSome rest (λ ys. 0 < length ys) → length bytes ≡ SESSION_INPUT_LIMIT
-      → Serves admits runs (ended_lines bytes) before after → IfSome left (ServesLimit admits runs before after)
-  serves_limit None rest bytes h more n s = tt
-  serves_limit (Some xs) None bytes h more n s = absurd h
-  serves_limit (Some xs) (Some ys) bytes h more n s =
+  limited : (bytes ys : List ℕ) → 0 < length ys → length bytes ≡ SESSION_INPUT_LIMIT → Serves admits runs first (ended_lines bytes) before after
+      → ServesLimit admits runs first before after (bytes ++ ys)
+  limited bytes ys more n s =
       let front : take SESSION_INPUT_LIMIT (bytes ++ ys) ≡ bytes = ap (λ k. take k (bytes ++ ys)) (sym n) ∙ take-append_seam bytes ys in
-      subst (ServesLimit admits runs before after) (sym h) (record {
+      record {
         beyond = omega (arith, more, n, length-append bytes ys);
-        serves = subst (λ l. Serves admits runs (ended_lines l) before after) (sym front) s;
-      })
+        serves = subst (λ l. Serves admits runs first (ended_lines l) before after) (sym front) s;
+      }
+
+  pub serves_limit : (left rest : Option (List ℕ)) (bytes : List ℕ) → Consumes left rest bytes → IfSome rest (λ ys. 0 < length ys) → length bytes ≡ SESSION_INPUT_LIMIT
+      → Serves admits runs first (ended_lines bytes) before after → HasBytes left (ServesLimit admits runs first before after)
+  serves_limit None rest bytes h more n s = (bytes ++ 0 ∷ [], tt, limited bytes (0 ∷ []) (omega arith) n s)
+  serves_limit (Some xs) None bytes h more n s = absurd h
+  serves_limit (Some xs) (Some ys) bytes h more n s = (bytes ++ ys, sym h, limited bytes ys more n s)
 
   pub serves_taken : (left rest : Option (List ℕ)) (bytes : List ℕ) → Consumes left rest bytes → length bytes ≤ SESSION_INPUT_LIMIT
-      → Serves admits runs (ended_lines bytes) before after → IfSome left (ServesTaken admits runs rest before after)
-  serves_taken None rest bytes h w s = tt
-  serves_taken (Some xs) rest bytes h w s = record { taken = bytes; consumed = h; within = w; serves = s }
+      → Serves admits runs first (ended_lines bytes) before after → ServesTaken admits runs first left rest before after
+  serves_taken left rest bytes h w s = record { taken = bytes; consumed = h; within = w; serves = s }
 
   -- a front of the answers to the first lines
-  pub front : (lines : List (List ℕ)) (inputs others : List (Option (List ℤ))) → inputs ++ others ≡ inputs_of lines → CutShort admits runs begin inputs before after
-      → ServesFront admits runs lines before after
+  pub front : (lines : List (List ℕ)) (inputs others : List (Option (List ℤ))) → inputs ++ others ≡ inputs_of lines → CutShort admits runs first inputs before after
+      → ServesFront admits runs first lines before after
   front lines inputs others e h =
       let these : take h.count inputs ≡ inputs_of (take h.count lines) =
       sym (take-append-le h.count inputs others h.within) ∙ ap (take h.count) e ∙ take-map input_of h.count lines in
       record {
         count = h.count;
         text = flat_map answer_text h.answers;
-        session = record { answers = h.answers; kept = h.next; session = subst (λ l. AnswersAll admits runs begin l h.answers h.next) these h.session; whole = refl };
+        session = record { answers = h.answers; kept = h.next; session = subst (λ l. AnswersAll admits runs first l h.answers h.next) these h.session; whole = refl };
         appended = h.written;
       }
 
   -- ---- what was taken from the source
 
-  pub all_of : (left rest : Option (List ℕ)) (kept : Kept M) (line : List ℕ) (ended : Bool) → ended ≡ true → HasTaken admits runs left rest before after kept line ended
-      → HasAll admits runs left before after kept line
+  pub all_of : (left rest : Option (List ℕ)) (kept : Kept M) (line : List ℕ) (ended : Bool) → ended ≡ true → HasTaken admits runs first left rest before after kept line ended
+      → HasAll admits runs first left before after kept line
   all_of left rest kept line ended e h = record {
     bytes = h.bytes;
     whole = whole_of left rest h.bytes h.consumed (h.at_end e);
@@ -151,7 +144,7 @@ module _ {M : Type 0} (admits : M → List ℤ → Bool) (runs : Runs M) (before
 
   -- the source has no byte behind as many as a session takes
   pub all_of_full : (left rest : Option (List ℕ)) (kept : Kept M) (line : List ℕ) (ended : Bool) → IfSome rest (λ bytes. bytes ≡ [])
-      → HasTaken admits runs left rest before after kept line ended → HasAll admits runs left before after kept line
+      → HasTaken admits runs first left rest before after kept line ended → HasAll admits runs first left before after kept line
   all_of_full left rest kept line ended e h = record {
     bytes = h.bytes;
     whole = whole_of left rest h.bytes h.consumed (at_end_if rest e);
@@ -161,78 +154,110 @@ module _ {M : Type 0} (admits : M → List ℤ → Bool) (runs : Runs M) (before
   }
 
   pub limit_of : (left rest : Option (List ℕ)) (kept : Kept M) (line : List ℕ) (ended : Bool) → ended ≡ false → IfSome rest (λ ys. 0 < length ys)
-      → HasTaken admits runs left rest before after kept line ended
-      → IfSome left (ServesLimit admits runs before after)
+      → HasTaken admits runs first left rest before after kept line ended
+      → HasBytes left (ServesLimit admits runs first before after)
   limit_of left rest kept line ended e more h =
       serves_limit left rest h.bytes h.consumed more (h.full e) (serves (ended_lines h.bytes) (inputs_after [] h.bytes) kept (inputs_ended h.bytes) h.answered)
 
   -- the read that failed took none
-  pub taken_of : (left rest next : Option (List ℕ)) (kept : Kept M) (line : List ℕ) (ended : Bool) → TakesAtMost rest next 0 → HasTaken admits runs left rest before after kept line ended
-      → IfSome left (ServesTaken admits runs next before after)
+  pub taken_of : (left rest next : Option (List ℕ)) (kept : Kept M) (line : List ℕ) (ended : Bool) → TakesAtMost rest next 0 → HasTaken admits runs first left rest before after kept line ended
+      → ServesTaken admits runs first left next before after
   taken_of left rest next kept line ended none h =
       serves_taken left next h.bytes (consumes_still left rest next h.bytes h.consumed none) h.within
       (serves (ended_lines h.bytes) (inputs_after [] h.bytes) kept (inputs_ended h.bytes) h.answered)
 
-  pub answered_of : (left rest : Option (List ℕ)) → HasAnswered admits runs left rest before after → IfSome left (ServesTaken admits runs rest before after)
+  pub answered_of : (left rest : Option (List ℕ)) → HasAnswered admits runs first left rest before after → ServesTaken admits runs first left rest before after
   answered_of left rest h =
       serves_taken left rest h.bytes h.consumed h.within (serves (ended_lines h.bytes) (inputs_after [] h.bytes) h.kept (inputs_ended h.bytes) h.answered)
 
-  front_of_bytes : (left rest : Option (List ℕ)) (bytes : List ℕ) → Consumes left rest bytes → CutShort admits runs begin (inputs_after [] bytes) before after
-      → IfSome left (λ input. ServesFront admits runs (lines_of input) before after)
-  front_of_bytes None rest bytes h g = tt
-  front_of_bytes (Some xs) None bytes h g = absurd h
-  front_of_bytes (Some xs) (Some ys) bytes h g = subst (λ input. ServesFront admits runs (lines_of input) before after) (sym h)
-      (front (lines_of (bytes ++ ys)) (inputs_after [] bytes) (inputs_after (begun_after [] bytes) ys ++ map input_of (last_line (begun_behind [] (bytes ++ ys)))) (all_inputs_front bytes ys) g)
+  front_of_lines : (bytes ys : List ℕ) → CutShort admits runs first (inputs_after [] bytes) before after → ServesFront admits runs first (lines_of (bytes ++ ys)) before after
+  front_of_lines bytes ys g =
+      front (lines_of (bytes ++ ys)) (inputs_after [] bytes) (inputs_after (begun_after [] bytes) ys ++ map input_of (last_line (begun_behind [] (bytes ++ ys)))) (all_inputs_front bytes ys) g
 
-  pub front_of : (left rest : Option (List ℕ)) → HasCut admits runs left rest before after → IfSome left (λ input. ServesFront admits runs (lines_of input) before after)
+  front_of_bytes : (left rest : Option (List ℕ)) (bytes : List ℕ) → Consumes left rest bytes → CutShort admits runs first (inputs_after [] bytes) before after
+      → HasBytes left (λ input. ServesFront admits runs first (lines_of input) before after)
+  front_of_bytes None rest bytes h g = (bytes ++ [], tt, front_of_lines bytes [] g)
+  front_of_bytes (Some xs) None bytes h g = absurd h
+  front_of_bytes (Some xs) (Some ys) bytes h g = (bytes ++ ys, sym h, front_of_lines bytes ys g)
+
+  pub front_of : (left rest : Option (List ℕ)) → HasCut admits runs first left rest before after → HasBytes left (λ input. ServesFront admits runs first (lines_of input) before after)
   front_of left rest h = front_of_bytes left rest h.bytes h.consumed h.cut
 
   -- ---- the last line
 
   -- no line has begun
-  pub served : (left : Option (List ℕ)) (kept : Kept M) (line : List ℕ) → line ≡ [] → HasAll admits runs left before after kept line → IfSome left (ServesAll admits runs before after)
-  served left kept line e h = if_whole left h.bytes (ServesAll admits runs before after) h.whole (record {
-    within = h.within;
-    serves = serves (lines_of h.bytes) (inputs_after [] h.bytes) kept (all_inputs_ended h.bytes (sym h.begun ∙ e)) h.answered;
-  })
+  pub served : (left : Option (List ℕ)) (kept : Kept M) (line : List ℕ) → line ≡ [] → HasAll admits runs first left before after kept line → HasBytes left (ServesAll admits runs first before after)
+  served left kept line e h = (
+    h.bytes,
+    h.whole,
+    record {
+      within = h.within;
+      serves = serves (lines_of h.bytes) (inputs_after [] h.bytes) kept (all_inputs_ended h.bytes (sym h.begun ∙ e)) h.answered;
+    },
+  )
 
-module _ {M : Type 0} (admits : M → List ℤ → Bool) (runs : Runs M) where
+  -- what is kept then
+  pub keeps : (left : Option (List ℕ)) (kept : Kept M) (line : List ℕ) → line ≡ [] → HasAll admits runs first left before after kept line → HasBytes left (KeepsAll admits runs first kept)
+  keeps left kept line e h = (
+    h.bytes,
+    h.whole,
+    record {
+      within = h.within;
+      answers = h.answered.answers;
+      session = subst (λ l. AnswersAll admits runs first l h.answered.answers kept) (all_inputs_ended h.bytes (sym h.begun ∙ e)) h.answered.session;
+    },
+  )
+
+module _ {M : Type 0} (admits : M → List ℤ → Bool) (runs : Runs M) (first : Kept M) where
+  -- the end of the input ends the line that has begun, and this is kept then
+  pub keeps_last : (others : Runs M) (left before mid after : Option (List ℕ)) (kept next : Kept M) (line : List ℕ) → others ≡ runs → (line ≡ [] → ⊥)
+      → HasAll admits runs first left before mid kept line → Answered admits others kept (input_of line ∷ []) next mid after → HasBytes left (KeepsAll admits runs first next)
+  keeps_last others left before mid after kept next line same some h g =
+      let both : Answered admits runs first (inputs_after [] h.bytes ++ input_of line ∷ []) next before after =
+      answered_then admits runs first kept next _ _ before mid after h.answered (subst (λ r. Answered admits r kept (input_of line ∷ []) next mid after) same g) in (
+        h.bytes,
+        h.whole,
+        record {
+          within = h.within;
+          answers = both.answers;
+          session = subst (λ l. AnswersAll admits runs first l both.answers next)
+              (ap (λ l. inputs_after [] h.bytes ++ input_of l ∷ []) h.begun ∙ all_inputs h.bytes (λ e. some (h.begun ∙ e))) both.session;
+        },
+      )
+
   -- the end of the input ends the line that has begun
   pub served_last : (others : Runs M) (left before mid after : Option (List ℕ)) (kept next : Kept M) (line : List ℕ) → others ≡ runs → (line ≡ [] → ⊥)
-      → HasAll admits runs left before mid kept line → Answered admits others kept (input_of line ∷ []) next mid after → IfSome left (ServesAll admits runs before after)
+      → HasAll admits runs first left before mid kept line → Answered admits others kept (input_of line ∷ []) next mid after → HasBytes left (ServesAll admits runs first before after)
   served_last others left before mid after kept next line same some h g =
-      let both : Answered admits runs begin (inputs_after [] h.bytes ++ input_of line ∷ []) next before after =
-      answered_then admits runs begin kept next _ _ before mid after h.answered (subst (λ r. Answered admits r kept (input_of line ∷ []) next mid after) same g) in
-      if_whole left h.bytes (ServesAll admits runs before after) h.whole (record {
-        within = h.within;
-        serves = serves admits runs before after (lines_of h.bytes) (inputs_after [] h.bytes ++ input_of line ∷ []) next
-            (ap (λ l. inputs_after [] h.bytes ++ input_of l ∷ []) h.begun ∙ all_inputs h.bytes (λ e. some (h.begun ∙ e))) both;
-      })
+      let both : Answered admits runs first (inputs_after [] h.bytes ++ input_of line ∷ []) next before after =
+      answered_then admits runs first kept next _ _ before mid after h.answered (subst (λ r. Answered admits r kept (input_of line ∷ []) next mid after) same g) in (
+        h.bytes,
+        h.whole,
+        record {
+          within = h.within;
+          serves = serves admits runs first before after (lines_of h.bytes) (inputs_after [] h.bytes ++ input_of line ∷ []) next
+              (ap (λ l. inputs_after [] h.bytes ++ input_of l ∷ []) h.begun ∙ all_inputs h.bytes (λ e. some (h.begun ∙ e))) both;
+        },
+      )
 
   pub served_cut : (others : Runs M) (left before mid after : Option (List ℕ)) (kept : Kept M) (line : List ℕ) → others ≡ runs → (line ≡ [] → ⊥)
-      → HasAll admits runs left before mid kept line → CutShort admits others kept (input_of line ∷ []) mid after
-      → IfSome left (λ input. ServesFront admits runs (lines_of input) before after)
+      → HasAll admits runs first left before mid kept line → CutShort admits others kept (input_of line ∷ []) mid after
+      → HasBytes left (λ input. ServesFront admits runs first (lines_of input) before after)
   served_cut others left before mid after kept line same some h g =
-      let both : CutShort admits runs begin (inputs_after [] h.bytes ++ input_of line ∷ []) before after =
-      cut_then admits runs begin kept _ _ before mid after h.answered (subst (λ r. CutShort admits r kept (input_of line ∷ []) mid after) same g) in
+      let both : CutShort admits runs first (inputs_after [] h.bytes ++ input_of line ∷ []) before after =
+      cut_then admits runs first kept _ _ before mid after h.answered (subst (λ r. CutShort admits r kept (input_of line ∷ []) mid after) same g) in
       let all : (inputs_after [] h.bytes ++ input_of line ∷ []) ++ [] ≡ inputs_of (lines_of h.bytes) =
       append-nil (inputs_after [] h.bytes ++ input_of line ∷ []) ∙ ap (λ l. inputs_after [] h.bytes ++ input_of l ∷ []) h.begun ∙ all_inputs h.bytes (λ e. some (h.begun ∙ e)) in
-      if_whole left h.bytes (λ input. ServesFront admits runs (lines_of input) before after) h.whole
-      (front admits runs before after (lines_of h.bytes) (inputs_after [] h.bytes ++ input_of line ∷ []) [] all both)
-
-  -- nothing was taken or written
-  pub served_none : (left told : Option (List ℕ)) → IfSome left (λ input. ServesFront admits runs (lines_of input) told told)
-  served_none left told = if_any left (λ input. ServesFront admits runs (lines_of input) told told)
-      (λ input. front admits runs told told (lines_of input) [] (inputs_of (lines_of input)) refl (cut_none admits runs begin [] told))
+      (h.bytes, h.whole, front admits runs first before after (lines_of h.bytes) (inputs_after [] h.bytes ++ input_of line ∷ []) [] all both)
 
   -- no more entries are kept than bytes were taken
-  pub few_all : (left before after : Option (List ℕ)) (kept : Kept M) (line : List ℕ) → HasAll admits runs left before after kept line → kept.inserted ≤ SESSION_INPUT_LIMIT
+  pub few_all : (left before after : Option (List ℕ)) (kept : Kept M) (line : List ℕ) → HasAll admits runs first left before after kept line → kept.inserted ≤ first.inserted + SESSION_INPUT_LIMIT
   few_all left before after kept line h =
-      let n : kept.inserted ≤ 0 + length h.bytes = inserted_within admits runs begin kept [] h.bytes before after h.answered in
+      let n : kept.inserted ≤ first.inserted + length h.bytes = inserted_within admits runs first kept [] h.bytes before after h.answered in
       let w = h.within in
       omega (arith, n, w)
 
-  pub stands_after_all : (others : Runs M) (left before after : Option (List ℕ)) (kept : Kept M) (line : List ℕ) → others ≡ runs
-      → HasAll admits runs left before after kept line → Stands others kept
-  stands_after_all others left before after kept line same h =
-      subst (λ r. Stands r kept) (sym same) (stands_answered admits runs begin kept (inputs_after [] h.bytes) before after h.answered (stands_begin runs))
+  pub stands_after_all : (others : Runs M) (left before after : Option (List ℕ)) (kept : Kept M) (line : List ℕ) → others ≡ runs → Stands runs first
+      → HasAll admits runs first left before after kept line → Stands others kept
+  stands_after_all others left before after kept line same s h =
+      subst (λ r. Stands r kept) (sym same) (stands_answered admits runs first kept (inputs_after [] h.bytes) before after h.answered s)

@@ -6,7 +6,7 @@ use Rattle.pg_io.specs.Streams.{AppendsFront}
 use Rattle.pg_cache.specs.Kept.{Kept}
 use Rattle.pg_num.specs.declared.limits.TheConstants.{CACHE_LIMIT, LINE_LIMIT, SESSION_INPUT_LIMIT}
 use Rattle.pg_session.specs.Lines.{input_of}
-use Rattle.pg_session.specs.Sessions.{Runs, Answer, AnswersAll, AnswersLine, IsEntryOf, answer_text, begin}
+use Rattle.pg_session.specs.Sessions.{Runs, Answer, AnswersAll, AnswersLine, IsEntryOf, answer_text}
 
 -- ---- a line that has begun, of which no more bytes are kept than show that it is too long
 
@@ -61,33 +61,33 @@ pub record IsReplyTo {M : Type 0} (admits : M → List ℤ → Bool) (runs : Run
 
 -- these bytes were taken, no more than a session takes: to the end of the source, or as many as a session takes. The lines that
 -- end in them were answered, and this one has begun
-pub record HasTaken {M : Type 0} (admits : M → List ℤ → Bool) (runs : Runs M) (left rest before after : Option (List ℕ)) (kept : Kept M) (line : List ℕ) (ended : Bool) : Type 0 where
+pub record HasTaken {M : Type 0} (admits : M → List ℤ → Bool) (runs : Runs M) (first : Kept M) (left rest before after : Option (List ℕ)) (kept : Kept M) (line : List ℕ) (ended : Bool) : Type 0 where
   pub bytes : List ℕ
   pub consumed : Consumes left rest bytes
   pub within : length bytes ≤ SESSION_INPUT_LIMIT
   pub at_end : ended ≡ true → IsAtEnd rest
   pub full : ended ≡ false → length bytes ≡ SESSION_INPUT_LIMIT
-  pub answered : Answered admits runs begin (inputs_after [] bytes) kept before after
+  pub answered : Answered admits runs first (inputs_after [] bytes) kept before after
   pub begun : line ≡ begun_after [] bytes
 
 -- these bytes were taken before a read failed, and the lines that end in them were answered
-pub record HasAnswered {M : Type 0} (admits : M → List ℤ → Bool) (runs : Runs M) (left rest before after : Option (List ℕ)) : Type 0 where
+pub record HasAnswered {M : Type 0} (admits : M → List ℤ → Bool) (runs : Runs M) (first : Kept M) (left rest before after : Option (List ℕ)) : Type 0 where
   pub bytes : List ℕ
   pub consumed : Consumes left rest bytes
   pub within : length bytes ≤ SESSION_INPUT_LIMIT
   pub kept : Kept M
-  pub answered : Answered admits runs begin (inputs_after [] bytes) kept before after
+  pub answered : Answered admits runs first (inputs_after [] bytes) kept before after
 
 -- these bytes were taken, and a front of the answers to the lines that end in them was written
-pub record HasCut {M : Type 0} (admits : M → List ℤ → Bool) (runs : Runs M) (left rest before after : Option (List ℕ)) : Type 0 where
+pub record HasCut {M : Type 0} (admits : M → List ℤ → Bool) (runs : Runs M) (first : Kept M) (left rest before after : Option (List ℕ)) : Type 0 where
   pub bytes : List ℕ
   pub consumed : Consumes left rest bytes
-  pub cut : CutShort admits runs begin (inputs_after [] bytes) before after
+  pub cut : CutShort admits runs first (inputs_after [] bytes) before after
 
 -- these were all bytes, no more than a session takes. The lines that end in them were answered, and this one has begun
-pub record HasAll {M : Type 0} (admits : M → List ℤ → Bool) (runs : Runs M) (left before after : Option (List ℕ)) (kept : Kept M) (line : List ℕ) : Type 0 where
+pub record HasAll {M : Type 0} (admits : M → List ℤ → Bool) (runs : Runs M) (first : Kept M) (left before after : Option (List ℕ)) (kept : Kept M) (line : List ℕ) : Type 0 where
   pub bytes : List ℕ
-  pub whole : IfSome left (λ input. input ≡ bytes)
+  pub whole : IfSome left (λ input. bytes ≡ input)
   pub within : length bytes ≤ SESSION_INPUT_LIMIT
-  pub answered : Answered admits runs begin (inputs_after [] bytes) kept before after
+  pub answered : Answered admits runs first (inputs_after [] bytes) kept before after
   pub begun : line ≡ begun_after [] bytes

@@ -1,6 +1,6 @@
 -- A session: what is answered to each line of input, and what is kept then.
-use Rattle.std.specs.Prelude.{◌≡◌, ℕ, ℤ, Bool, List, [], ◌∷◌, flat_map, map, Option, Some, None}
-use Rattle.pg_cache.specs.Kept.{Kept, first_from, oldest, value_of, with_value, nothing}
+use Rattle.std.specs.Prelude.{◌≡◌, ℕ, ℤ, Bool, List, [], ◌∷◌, flat_map, length, map, Option, Some, None}
+use Rattle.pg_cache.specs.Kept.{Kept, first_from, oldest, value_of, with_value}
 use Rattle.pg_num.specs.declared.limits.TheConstants.{CACHE_LIMIT}
 use Rattle.pg_session_texts.specs.declared.reply.ReplyKind.{ReplyKind}
 use Rattle.pg_session_texts.specs.declared.reply.ReplyKind.TheVariants.{Recorded, Reused, RefusedLine}
@@ -16,6 +16,8 @@ pub record Runs (M : Type 0) : Type 1 where
   pub refused : List ℤ → Refusal → List ℕ → Type 0
   -- the run along the entry's schedule on this input prints this and ends so
   pub along : M → List ℤ → List ℕ → EndLine → Type 0
+  -- this entry is one of turns that were given
+  pub given : M → Type 0
 
 -- what is answered to a line of input
 pub record Answer : Type 0 where
@@ -92,25 +94,34 @@ AnswersAll admits runs kept [] answers last = (answers ≡ []) × (last ≡ kept
 AnswersAll admits runs kept (input ∷ inputs) answers last =
     AnswersThen (AnswersLine admits runs kept input) (λ next rest. AnswersAll admits runs next inputs rest last) answers
 
--- what a new session keeps: nothing, and at most so many entries later
-abbrev pub begin : {M : Type 0} → Kept M
-begin = nothing CACHE_LIMIT
+-- what a session keeps at first that begins with these entries: they have the numbers from 0 on, and it keeps at most so many later
+abbrev pub opened : {M : Type 0} → List M → Kept M
+opened entries = record { size = CACHE_LIMIT; inserted = length entries; values = entries }
 
--- the text of a session over lines that are these inputs, or none
-pub record IsSessionText {M : Type 0} (admits : M → List ℤ → Bool) (runs : Runs M) (inputs : List (Option (List ℤ))) (text : List ℕ) : Type 0 where
+-- what a session keeps at first that begins with none
+abbrev pub begin : {M : Type 0} → Kept M
+begin = opened []
+
+-- the text of a session over lines that are these inputs, or none, where this is kept at first
+pub record IsSessionText {M : Type 0} (admits : M → List ℤ → Bool) (runs : Runs M) (first : Kept M) (inputs : List (Option (List ℤ))) (text : List ℕ) : Type 0 where
   pub answers : List Answer
   pub kept : Kept M
-  pub session : AnswersAll admits runs begin inputs answers kept
+  pub session : AnswersAll admits runs first inputs answers kept
   pub whole : text ≡ flat_map answer_text answers
 
 -- ---- entries of a session
 
--- an entry of this program
-pub record IsEntryOf {M : Type 0} (runs : Runs M) (entry : M) : Type 0 where
+-- an entry that recording an input gives
+pub record IsRecordedEntry {M : Type 0} (runs : Runs M) (entry : M) : Type 0 where
   pub input : List ℤ
   pub output : List ℕ
   pub end : EndLine
   pub recording : runs.recorded input entry output end
+
+-- an entry of this program: one of a recording, or one of given turns
+pub data IsEntryOf {M : Type 0} (runs : Runs M) (entry : M) : Type 0 where
+  of_recording : IsRecordedEntry runs entry → IsEntryOf runs entry
+  of_turns : runs.given entry → IsEntryOf runs entry
 
 -- the test of what an entry stands for
 abbrev pub admits_by : {V M : Type 0} → (V → M) → (M → List ℤ → Bool) → V → List ℤ → Bool

@@ -4,6 +4,7 @@
 
 mod answers;
 mod fault;
+mod keeping;
 mod lines;
 mod runner;
 mod serving;
@@ -11,6 +12,8 @@ mod session;
 mod trials;
 
 pub use fault::ServeFault;
+pub use keeping::kept_by;
 pub use runner::{Recording, Run, Runner};
 pub use serving::serve;
+pub use session::begin;
 pub use trials::trial;

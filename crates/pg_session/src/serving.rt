@@ -1,16 +1,17 @@
 //! A session over a source and a sink.
-ghost use Rattle.std.specs.Prelude.{◌≡◌, ◌<◌, ◌+◌, ◌⊎◌, [], false, length, IfOk, IfSome, OnOk, IsErrOf};
+ghost use Rattle.std.specs.Prelude.{◌≡◌, ◌<◌, ◌≤◌, ◌+◌, ◌⊎◌, [], false, length, IfOk, IfSome, OnOk, IsErrOf};
 ghost use Rattle.pg_io.specs.Faults.{Rose};
 ghost use Rattle.pg_io.specs.Streams.{TakesAtMost};
-ghost use Rattle.pg_num.specs.declared.limits.TheConstants.{SESSION_INPUT_LIMIT};
+ghost use Rattle.pg_num.specs.declared.limits.TheConstants.{CACHE_LIMIT, SESSION_INPUT_LIMIT};
 ghost use Rattle.pg_session.specs.Lines.{lines_of};
-ghost use Rattle.pg_session.specs.Progress.{HasAll, HasAnswered, HasCut, HasTaken};
-ghost use Rattle.pg_session.specs.Sessions.{IsExact, admits_by, begin};
-ghost use Rattle.pg_session.specs.Texts.{ServesAll, ServesFront, ServesLimit, ServesTaken};
+ghost use Rattle.pg_session.specs.Progress.{HasAll, HasAnswered, HasCut, HasTaken, Stands};
+ghost use Rattle.pg_session.specs.Sessions.{IsExact, admits_by};
+ghost use Rattle.pg_session.specs.Texts.{HasBytes, ServesAll, ServesFront, ServesLimit, ServesTaken};
 
 use crate::fault::ServeFault;
 use crate::runner::Runner;
 use crate::session::{Session, end_line, take_piece};
+use pg_cache::Cache;
 use pg_io::{Failed, Sink, Source};
 use pg_num::limits::SESSION_INPUT_LIMIT;
 use std::alloc::Global;
@@ -27,14 +28,15 @@ fn take_pieces<R: Runner, S: Source, K: Sink>(
     out: &mut K,
 ) -> Result<bool, ServeFault>
     requires exact { IsExact R.Entry.meaning }
-    requires kept { session.old.cache ≡ begin }
+    requires stands { Stands (R.runs (R.subject runner.old)) session.old.cache }
+    requires few { session.old.cache.inserted ≤ CACHE_LIMIT }
     requires line { session.old.line.items ≡ [] }
-    ensures taken { IfOk result (λ ended. HasTaken (admits_by R.Entry.meaning R.Entry.test) (R.runs (R.subject runner.old)) (S.rest src.old) (S.rest src.new) (K.taken out.old) (K.taken out.new)
+    ensures taken { IfOk result (λ ended. HasTaken (admits_by R.Entry.meaning R.Entry.test) (R.runs (R.subject runner.old)) session.old.cache (S.rest src.old) (S.rest src.new) (K.taken out.old) (K.taken out.new)
         session.new.cache session.new.line.items ended) }
     ensures read_fault { IsErrOf result ServeFault.ReadFault →
-        HasAnswered (admits_by R.Entry.meaning R.Entry.test) (R.runs (R.subject runner.old)) (S.rest src.old) (S.rest src.new) (K.taken out.old) (K.taken out.new) }
+        HasAnswered (admits_by R.Entry.meaning R.Entry.test) (R.runs (R.subject runner.old)) session.old.cache (S.rest src.old) (S.rest src.new) (K.taken out.old) (K.taken out.new) }
     ensures cut { (IsErrOf result ServeFault.WriteFault ⊎ IsErrOf result ServeFault.OutOfMemory) →
-        HasCut (admits_by R.Entry.meaning R.Entry.test) (R.runs (R.subject runner.old)) (S.rest src.old) (S.rest src.new) (K.taken out.old) (K.taken out.new) }
+        HasCut (admits_by R.Entry.meaning R.Entry.test) (R.runs (R.subject runner.old)) session.old.cache (S.rest src.old) (S.rest src.new) (K.taken out.old) (K.taken out.new) }
     ensures within { IsErrOf result ServeFault.InputLimit → ⊥ }
     ensures takes { TakesAtMost (S.rest src.old) (S.rest src.new) SESSION_INPUT_LIMIT }
     ensures read_cause { IsErrOf result ServeFault.ReadFault → Rose (S.faults src.old) (S.faults src.new) }
@@ -79,7 +81,7 @@ fn must_end<S: Source>(src: &mut S) -> Result<(), ServeFault>
 }
 
 // Takes all of the source, unless it has more bytes than a session takes.
-fn take_all<R: Runner, S: Source, K: Sink>(
+pub(crate) fn take_all<R: Runner, S: Source, K: Sink>(
     alloc: Global,
     runner: &mut R,
     session: &mut Session<R::Entry>,
@@ -87,16 +89,17 @@ fn take_all<R: Runner, S: Source, K: Sink>(
     out: &mut K,
 ) -> Result<(), ServeFault>
     requires exact { IsExact R.Entry.meaning }
-    requires kept { session.old.cache ≡ begin }
+    requires stands { Stands (R.runs (R.subject runner.old)) session.old.cache }
+    requires few { session.old.cache.inserted ≤ CACHE_LIMIT }
     requires line { session.old.line.items ≡ [] }
     ensures all { OnOk result (HasAll (admits_by R.Entry.meaning R.Entry.test)
-        (R.runs (R.subject runner.old)) (S.rest src.old) (K.taken out.old) (K.taken out.new) session.new.cache session.new.line.items) }
+        (R.runs (R.subject runner.old)) session.old.cache (S.rest src.old) (K.taken out.old) (K.taken out.new) session.new.cache session.new.line.items) }
     ensures input_limit { IsErrOf result ServeFault.InputLimit →
-        IfSome (S.rest src.old) (ServesLimit (admits_by R.Entry.meaning R.Entry.test) (R.runs (R.subject runner.old)) (K.taken out.old) (K.taken out.new)) }
+        HasBytes (S.rest src.old) (ServesLimit (admits_by R.Entry.meaning R.Entry.test) (R.runs (R.subject runner.old)) session.old.cache (K.taken out.old) (K.taken out.new)) }
     ensures read_fault { IsErrOf result ServeFault.ReadFault →
-        IfSome (S.rest src.old) (ServesTaken (admits_by R.Entry.meaning R.Entry.test) (R.runs (R.subject runner.old)) (S.rest src.new) (K.taken out.old) (K.taken out.new)) }
+        ServesTaken (admits_by R.Entry.meaning R.Entry.test) (R.runs (R.subject runner.old)) session.old.cache (S.rest src.old) (S.rest src.new) (K.taken out.old) (K.taken out.new) }
     ensures cut { (IsErrOf result ServeFault.WriteFault ⊎ IsErrOf result ServeFault.OutOfMemory) →
-        IfSome (S.rest src.old) (λ input. ServesFront (admits_by R.Entry.meaning R.Entry.test) (R.runs (R.subject runner.old)) (lines_of input) (K.taken out.old) (K.taken out.new)) }
+        HasBytes (S.rest src.old) (λ input. ServesFront (admits_by R.Entry.meaning R.Entry.test) (R.runs (R.subject runner.old)) session.old.cache (lines_of input) (K.taken out.old) (K.taken out.new)) }
     ensures takes { TakesAtMost (S.rest src.old) (S.rest src.new) (SESSION_INPUT_LIMIT + 1) }
     ensures read_within { IsErrOf result ServeFault.ReadFault → TakesAtMost (S.rest src.old) (S.rest src.new) SESSION_INPUT_LIMIT }
     ensures read_cause { IsErrOf result ServeFault.ReadFault → Rose (S.faults src.old) (S.faults src.new) }
@@ -124,19 +127,22 @@ fn take_all<R: Runner, S: Source, K: Sink>(
 pub fn serve<R: Runner, S: Source, K: Sink>(
     alloc: Global,
     runner: &mut R,
+    first: Cache<R::Entry>,
     src: &mut S,
     out: &mut K,
 ) -> Result<(), ServeFault>
-    requires { IsExact R.Entry.meaning }
-    ensures done { OnOk result (IfSome (S.rest src.old) (ServesAll (admits_by R.Entry.meaning R.Entry.test) (R.runs (R.subject runner.old)) (K.taken out.old) (K.taken out.new))) }
+    requires exact { IsExact R.Entry.meaning }
+    requires stands { Stands (R.runs (R.subject runner.old)) first }
+    requires few { first.inserted ≤ CACHE_LIMIT }
+    ensures done { OnOk result (HasBytes (S.rest src.old) (ServesAll (admits_by R.Entry.meaning R.Entry.test) (R.runs (R.subject runner.old)) first (K.taken out.old) (K.taken out.new))) }
     ensures input_limit { IsErrOf result ServeFault.InputLimit →
-        IfSome (S.rest src.old) (ServesLimit (admits_by R.Entry.meaning R.Entry.test) (R.runs (R.subject runner.old)) (K.taken out.old) (K.taken out.new)) }
+        HasBytes (S.rest src.old) (ServesLimit (admits_by R.Entry.meaning R.Entry.test) (R.runs (R.subject runner.old)) first (K.taken out.old) (K.taken out.new)) }
     ensures read_fault { IsErrOf result ServeFault.ReadFault →
-        IfSome (S.rest src.old) (ServesTaken (admits_by R.Entry.meaning R.Entry.test) (R.runs (R.subject runner.old)) (S.rest src.new) (K.taken out.old) (K.taken out.new)) }
+        ServesTaken (admits_by R.Entry.meaning R.Entry.test) (R.runs (R.subject runner.old)) first (S.rest src.old) (S.rest src.new) (K.taken out.old) (K.taken out.new) }
     ensures write_fault_cuts { IsErrOf result ServeFault.WriteFault →
-        IfSome (S.rest src.old) (λ input. ServesFront (admits_by R.Entry.meaning R.Entry.test) (R.runs (R.subject runner.old)) (lines_of input) (K.taken out.old) (K.taken out.new)) }
+        HasBytes (S.rest src.old) (λ input. ServesFront (admits_by R.Entry.meaning R.Entry.test) (R.runs (R.subject runner.old)) first (lines_of input) (K.taken out.old) (K.taken out.new)) }
     ensures out_of_memory_cuts { IsErrOf result ServeFault.OutOfMemory →
-        IfSome (S.rest src.old) (λ input. ServesFront (admits_by R.Entry.meaning R.Entry.test) (R.runs (R.subject runner.old)) (lines_of input) (K.taken out.old) (K.taken out.new)) }
+        HasBytes (S.rest src.old) (λ input. ServesFront (admits_by R.Entry.meaning R.Entry.test) (R.runs (R.subject runner.old)) first (lines_of input) (K.taken out.old) (K.taken out.new)) }
     ensures read_cause { IsErrOf result ServeFault.ReadFault → Rose (S.faults src.old) (S.faults src.new) }
     ensures read_fault_within { IsErrOf result ServeFault.ReadFault → TakesAtMost (S.rest src.old) (S.rest src.new) SESSION_INPUT_LIMIT }
     ensures read_count { IsErrOf result ServeFault.ReadFault ⊎ (S.faults src.new ≡ S.faults src.old) }
@@ -145,7 +151,10 @@ pub fn serve<R: Runner, S: Source, K: Sink>(
     ensures takes { TakesAtMost (S.rest src.old) (S.rest src.new) (SESSION_INPUT_LIMIT + 1) }
     ensures stays { R.subject runner.new ≡ R.subject runner.old }
 {
-    let mut session = Session::new(alloc)?;
+    let mut session = Session {
+        cache: first,
+        line: Vec::new(alloc),
+    };
     take_all(alloc, runner, &mut session, src, out)?;
     if session.line.is_empty() {
         return Ok(());

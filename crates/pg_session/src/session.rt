@@ -25,6 +25,18 @@ pub(crate) struct Session<E: Drop> {
     pub(crate) line: Vec<u8>,
 }
 
+/// What a session keeps at first that begins with no entries.
+///
+/// # Errors
+///
+/// Where no memory is left.
+pub fn begin<E: Drop>(alloc: Global) -> Result<Cache<E>, AllocError>
+    ensures { IfOk result (λ c. c ≡ begin) }
+{
+    let cache = Cache::new(alloc, CACHE_LIMIT)?;
+    Ok(cache)
+}
+
 // The answer to a line.
 fn answer_line<R: Runner>(
     alloc: Global,
@@ -74,20 +86,6 @@ fn reply<R: Runner>(
     let answer = answer_line(alloc, runner, cache, line)?;
     let text = text_of(alloc, answer)?;
     Ok(text)
-}
-
-impl<E: Drop> Session<E> {
-    /// A session that keeps nothing so far.
-    pub(crate) fn new(alloc: Global) -> Result<Session<E>, AllocError>
-        ensures cache { IfOk result (λ s. s.cache ≡ begin) }
-        ensures line { IfOk result (λ s. s.line.items ≡ []) }
-    {
-        let cache = Cache::new(alloc, CACHE_LIMIT)?;
-        Ok(Session {
-            cache,
-            line: Vec::new(alloc),
-        })
-    }
 }
 
 /// Ends the line that has begun, and writes the reply to it.

@@ -38,7 +38,7 @@ abbrev pub Fits : {V : Type 0} → Kept V → Type 0
 Fits c = length c.values ≤ c.inserted
 
 -- where a number has a value, it isn't below the oldest
-from_oldest : {V : Type 0} (c : Kept V) (n : ℕ) (x : V) → value_of c n ≡ Some x → (oldest c ≤ n) × (slice_get c.values (n - oldest c) ≡ Some x)
+pub from_oldest : {V : Type 0} (c : Kept V) (n : ℕ) (x : V) → value_of c n ≡ Some x → (oldest c ≤ n) × (slice_get c.values (n - oldest c) ≡ Some x)
 from_oldest c n x e = go (nat_lt n (oldest c)) refl e
   where
     go : (b : Bool) → nat_lt n (oldest c) ≡ b → cond b None (slice_get c.values (n - oldest c)) ≡ Some x → (oldest c ≤ n) × (slice_get c.values (n - oldest c) ≡ Some x)

@@ -21,7 +21,7 @@ use Rattle.pg_session_texts.specs.declared.reply.ReplyKind.TheVariants.{Recorded
 use Rattle.pg_session_entry.specs.Entries.{EntryParts}
 use Rattle.pg_law_order.specs.Served.{EndsAsGuided, guided_along}
 use Rattle.pg_law_order.proofs.ExitsHaveAllTurns.{exits_with}
-use Rattle.pg_session.specs.Sessions.{Answer, AnswersAll, begin}
+use Rattle.pg_session.specs.Sessions.{Answer, AnswersAll, opened}
 use Rattle.pg_session_runner.specs.Headline.{IsAsReplied, IsRecordedLine, IsServedRecording}
 use Rattle.pg_session_runner.specs.Runs.{IsKept, end_line_of, entry_admits, runs_of}
 use Rattle.pg_session_runner.proofs.ReusedLines.{goes_on}
@@ -75,19 +75,19 @@ module _ (p : NumberedProgram) (quantum : ℕ) where
 
   -- ---- a line that was recorded
 
-  module _ (inputs : List (Option (List ℤ))) (answers : List Answer) (line number : ℕ) where
-    abbrev recorded_line : (r : Records entry_admits (runs_of p quantum) 0 inputs answers line number) → IsRecordedLine p quantum inputs answers line number r.entry
+  module _ (given : List EntryParts) (inputs : List (Option (List ℤ))) (answers : List Answer) (line number : ℕ) where
+    abbrev recorded_line : (r : Records entry_admits (runs_of p quantum) (length given) inputs answers line number) → IsRecordedLine p quantum given inputs answers line number r.entry
     recorded_line r = record {
       input = r.reply.input;
       is_input = r.reply.is_input;
       output = r.reply.output;
       end = r.reply.end;
       is_answer = r.reply.is_answer;
-      numbered = let n = r.numbered in omega (arith, n);
+      numbered = r.numbered;
       recording = r.recording;
     }
 
-    served_line : ExitsSo → Records entry_admits (runs_of p quantum) 0 inputs answers line number → IsServedRecording p quantum inputs answers line number
+    served_line : ExitsSo → Records entry_admits (runs_of p quantum) (length given) inputs answers line number → IsServedRecording p quantum given inputs answers line number
     served_line exits_so r =
         let own = r.reply.input in
         let e = r.entry in
@@ -101,6 +101,6 @@ module _ (p : NumberedProgram) (quantum : ℕ) where
           served = k.served;
         }
 
-    pub line_is_served : ExitsSo → (kept : Kept EntryParts) → AnswersAll entry_admits (runs_of p quantum) begin inputs answers kept
-        → (a : Answer) → slice_get answers line ≡ Some a → a.kind ≡ Recorded number → IsServedRecording p quantum inputs answers line number
-    line_is_served exits_so kept h a g k = served_line exits_so (records entry_admits (runs_of p quantum) begin kept inputs answers h line number a g k)
+    pub line_is_served : ExitsSo → (kept : Kept EntryParts) → AnswersAll entry_admits (runs_of p quantum) (opened given) inputs answers kept
+        → (a : Answer) → slice_get answers line ≡ Some a → a.kind ≡ Recorded number → IsServedRecording p quantum given inputs answers line number
+    line_is_served exits_so kept h a g k = served_line exits_so (records entry_admits (runs_of p quantum) (opened given) kept inputs answers h line number a g k)

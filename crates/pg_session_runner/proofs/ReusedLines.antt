@@ -1,6 +1,6 @@
 -- What is said of a line that is answered by reuse, for the runs of a program.
-use Rattle.std.proofs.Common.{◌≡◌, ◌⊎◌, ℕ, ℤ, Bool, true, false, cond, List, length, Option, Some, None, sym, ap, ◌∙◌, arith, inl, inr}
-use Rattle.std.specs.Prelude.{nat_lt, slice_get}
+use Rattle.std.proofs.Common.{◌≡◌, ◌⊎◌, ℕ, ℤ, ◌-◌, All, List, length, Option, Some, sym, ap, ◌∙◌, arith, inl, inr}
+use Rattle.std.specs.Prelude.{slice_get}
 use Rattle.pg_cache.specs.Kept.{Kept, oldest, value_of}
 use Rattle.pg_ir.specs.Program.{NumberedProgram}
 use Rattle.pg_run_trace.specs.declared.step.Step.{Step}
@@ -13,10 +13,11 @@ use Rattle.pg_session_texts.specs.declared.reply.EndLine.{EndLine}
 use Rattle.pg_session_texts.specs.declared.reply.ReplyKind.TheVariants.{Reused}
 use Rattle.pg_session_entry.specs.Entries.{EntryParts}
 use Rattle.pg_law_order.specs.Served.{EndsAsGuided, RunsAsGuided, guided_along}
-use Rattle.pg_session.specs.Sessions.{Answer, AnswersAll, begin}
-use Rattle.pg_session_runner.specs.Headline.{GoesOn, IsAsReplied, IsRecordedLine, IsReusedLine}
-use Rattle.pg_session_runner.specs.Runs.{RunsAlong, end_line_of, entry_admits, runs_of}
-use Rattle.pg_session_runner.proofs.KeptInsertions.{Fits}
+use Rattle.pg_session.specs.Sessions.{Answer, AnswersAll, opened}
+use Rattle.pg_session.proofs.KeptEntries.{at_place}
+use Rattle.pg_session_runner.specs.Headline.{GoesOn, HasOrigin, IsAsReplied, IsRecordedLine, IsReusedLine, of_given, of_line}
+use Rattle.pg_session_runner.specs.Runs.{IsGiven, RunsAlong, end_line_of, entry_admits, runs_of}
+use Rattle.pg_session_runner.proofs.KeptInsertions.{Fits, from_oldest}
 use Rattle.pg_session_runner.proofs.ReusedEntries.{Made, Reuses, reuses}
 use Rattle.pg_session_runner.proofs.TurnCounts.{turns_taken}
 
@@ -32,36 +33,38 @@ as_replied p input e output end xs z r h =
       ends = ap (λ (n : ℕ). end_line_of n (full_end p e.schedule.turns xs z)) turns ∙ ap (λ (f : GuidedEnd). end_line_of (guided_along p input e.schedule).turns f) h.end ∙ r.ends;
     }
 
--- nothing is kept at first
-none_kept : (n : ℕ) (e : EntryParts) → value_of (begin {M = EntryParts}) n ≡ Some e → ⊥
-none_kept n e h = go (nat_lt n (oldest (begin {M = EntryParts}))) h
-  where
-    go : (b : Bool) → cond b None None ≡ Some e → ⊥
-    go true k = absurd cc
-    go false k = absurd cc
+-- what is kept at first under a number stands at its place among the given entries
+given_at : (given : List EntryParts) (n : ℕ) (e : EntryParts) → value_of (opened given) n ≡ Some e → slice_get given n ≡ Some e
+given_at given n e h =
+    let k = from_oldest (opened given) n e h in
+    let place : n ≡ n - oldest (opened given) = omega arith in
+    ap (slice_get given) place ∙ k.1
 
 -- ---- a line
 
-module _ (p : NumberedProgram) (quantum : ℕ) (inputs : List (Option (List ℤ))) (answers : List Answer) (line number : ℕ) where
-  recorded_line : (entry : EntryParts) (m : Made entry_admits (runs_of p quantum) 0 inputs answers line number entry) → IsRecordedLine p quantum inputs answers m.earlier number entry
+module _ (p : NumberedProgram) (quantum : ℕ) (given : List EntryParts) (inputs : List (Option (List ℤ))) (answers : List Answer) (line number : ℕ) where
+  recorded_line : (entry : EntryParts) (m : Made entry_admits (runs_of p quantum) (length given) inputs answers line number entry) → IsRecordedLine p quantum given inputs answers m.earlier number entry
   recorded_line entry m = record {
     input = m.reply.input;
     is_input = m.reply.is_input;
     output = m.reply.output;
     end = m.reply.end;
     is_answer = m.reply.is_answer;
-    numbered = let n = m.numbered in omega (arith, n);
+    numbered = m.numbered;
     recording = m.recording;
   }
 
-  made : (entry : EntryParts) → (value_of (begin {M = EntryParts}) number ≡ Some entry) ⊎ Made entry_admits (runs_of p quantum) 0 inputs answers line number entry
-      → Made entry_admits (runs_of p quantum) 0 inputs answers line number entry
-  made entry (inl h) = absurd (none_kept number entry h)
-  made entry (inr m) = m
+  origin : (entry : EntryParts) → All (IsGiven p) given
+      → (value_of (opened given) number ≡ Some entry) ⊎ Made entry_admits (runs_of p quantum) (length given) inputs answers line number entry
+      → HasOrigin p quantum given inputs answers line number entry
+  origin entry are_given (inl h) =
+      let e = given_at given number entry h in
+      of_given e (at_place (IsGiven p) given number entry are_given e)
+  origin entry are_given (inr m) = of_line m.earlier m.before (recorded_line entry m)
 
-  reused_line : Reuses entry_admits (runs_of p quantum) begin inputs answers line number → IsReusedLine p quantum inputs answers line number
-  reused_line r =
-      let m = made r.entry r.origin in
+  reused_line : All (IsGiven p) given → Reuses entry_admits (runs_of p quantum) (opened given) inputs answers line number
+      → IsReusedLine p quantum given inputs answers line number
+  reused_line are_given r =
       record {
         input = r.reply.input;
         is_input = r.reply.is_input;
@@ -69,9 +72,7 @@ module _ (p : NumberedProgram) (quantum : ℕ) (inputs : List (Option (List ℤ)
         end = r.reply.end;
         is_answer = r.reply.is_answer;
         entry = r.entry;
-        earlier = m.earlier;
-        before = m.before;
-        made = recorded_line r.entry m;
+        origin = origin r.entry are_given r.origin;
         admitted = r.admitted;
         printed = r.run.printed;
         ends = r.run.ends;
@@ -80,8 +81,8 @@ module _ (p : NumberedProgram) (quantum : ℕ) (inputs : List (Option (List ℤ)
         served = r.run.served;
       }
 
-  pub line_is_served : (kept : Kept EntryParts) → AnswersAll entry_admits (runs_of p quantum) begin inputs answers kept
-      → (a : Answer) → slice_get answers line ≡ Some a → a.kind ≡ Reused number → IsReusedLine p quantum inputs answers line number
-  line_is_served kept h a g k =
-      let fits : Fits (begin {M = EntryParts}) = omega arith in
-      reused_line (reuses entry_admits (runs_of p quantum) begin kept inputs answers fits h line number a g k)
+  pub line_is_served : All (IsGiven p) given → (kept : Kept EntryParts) → AnswersAll entry_admits (runs_of p quantum) (opened given) inputs answers kept
+      → (a : Answer) → slice_get answers line ≡ Some a → a.kind ≡ Reused number → IsReusedLine p quantum given inputs answers line number
+  line_is_served are_given kept h a g k =
+      let fits : Fits (opened given) = omega arith in
+      reused_line are_given (reuses entry_admits (runs_of p quantum) (opened given) kept inputs answers fits h line number a g k)

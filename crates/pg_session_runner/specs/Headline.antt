@@ -1,6 +1,6 @@
 -- What a session promises of each line of input that it records or answers by reuse: the reply is that of every run of the
--- program on the line's input that the turns of the recording permit.
-use Rattle.std.specs.Prelude.{◌≡◌, ◌≤◌, ◌<◌, ◌⊎◌, ℕ, ℤ, List, count_by, length, take, true, Option, Some, slice_get}
+-- program on the line's input that the turns of the entry permit.
+use Rattle.std.specs.Prelude.{◌≡◌, ◌≤◌, ◌<◌, ◌⊎◌, ◌+◌, ℕ, ℤ, List, count_by, length, take, true, Option, Some, slice_get}
 use Rattle.pg_ir.specs.Program.{NumberedProgram}
 use Rattle.pg_precondition.specs.Values.{is_admitted}
 use Rattle.pg_run_trace.specs.declared.schedule.Schedule.{Schedule}
@@ -16,7 +16,7 @@ use Rattle.pg_session_entry.specs.Entries.{EntryParts}
 use Rattle.pg_law_order.specs.Served.{IsServed, guided_along}
 use Rattle.pg_session.specs.Sessions.{Answer}
 use Rattle.pg_session.specs.Trials.{is_recorded}
-use Rattle.pg_session_runner.specs.Runs.{IsKept, end_line_of}
+use Rattle.pg_session_runner.specs.Runs.{IsGiven, IsKept, end_line_of}
 
 -- ---- runs that the turns of a schedule permit
 
@@ -38,23 +38,23 @@ pub record IsAsReplied (p : NumberedProgram) (s : Schedule) (xs : List Step) (z 
 
 -- ---- a line that was recorded
 
--- the line of this place was recorded, and its entry got this number
-pub record IsRecordedLine (p : NumberedProgram) (quantum : ℕ) (inputs : List (Option (List ℤ))) (answers : List Answer) (line number : ℕ) (entry : EntryParts) : Type 0 where
+-- in a session that began with these entries, the line of this place was recorded, and its entry got this number
+pub record IsRecordedLine (p : NumberedProgram) (quantum : ℕ) (given : List EntryParts) (inputs : List (Option (List ℤ))) (answers : List Answer) (line number : ℕ) (entry : EntryParts) : Type 0 where
   -- the line was this input, and this was answered
   pub input : List ℤ
   pub is_input : slice_get inputs line ≡ Some (Some input)
   pub output : List ℕ
   pub end : EndLine
   pub is_answer : slice_get answers line ≡ Some (record { kind = Recorded number; output = output; end = Some end })
-  -- so many lines before it were recorded
-  pub numbered : number ≡ count_by (λ (a : Answer). is_recorded a.kind) (take line answers)
+  -- so many entries were given, and so many lines before it were recorded
+  pub numbered : number ≡ length given + count_by (λ (a : Answer). is_recorded a.kind) (take line answers)
   -- the entry is that of the program's rotation run on that input
   pub recording : IsKept p quantum input entry output end
 
 -- and the reply is that of every run of the program on the line's input that the entry's turns permit:
-pub record IsServedRecording (p : NumberedProgram) (quantum : ℕ) (inputs : List (Option (List ℤ))) (answers : List Answer) (line number : ℕ) : Type 0 where
+pub record IsServedRecording (p : NumberedProgram) (quantum : ℕ) (given : List EntryParts) (inputs : List (Option (List ℤ))) (answers : List Answer) (line number : ℕ) : Type 0 where
   pub entry : EntryParts
-  pub made : IsRecordedLine p quantum inputs answers line number entry
+  pub made : IsRecordedLine p quantum given inputs answers line number entry
   -- each goes on until it is full,
   pub goes_on : (xs : List Step) (z : State) → IsPermitted p made.input entry.schedule.turns entry.schedule.gated xs z → GoesOn p made.input entry.schedule xs z
   -- and then is as the reply says
@@ -64,19 +64,25 @@ pub record IsServedRecording (p : NumberedProgram) (quantum : ℕ) (inputs : Lis
 
 -- ---- a line that was answered by reuse
 
--- the line of this place was answered by the entry of this number:
-pub record IsReusedLine (p : NumberedProgram) (quantum : ℕ) (inputs : List (Option (List ℤ))) (answers : List Answer) (line number : ℕ) : Type 0 where
+-- where the entry of this number comes from, by which the line of this place was answered
+pub data HasOrigin (p : NumberedProgram) (quantum : ℕ) (given : List EntryParts) (inputs : List (Option (List ℤ))) (answers : List Answer) (line number : ℕ) (entry : EntryParts) : Type 0 where
+  -- an earlier line was recorded as the entry of that number
+  of_line : (earlier : ℕ) → earlier < line → IsRecordedLine p quantum given inputs answers earlier number entry
+      → HasOrigin p quantum given inputs answers line number entry
+  -- the session began with it under that number, and it is one of given turns
+  of_given : slice_get given number ≡ Some entry → IsGiven p entry → HasOrigin p quantum given inputs answers line number entry
+
+-- in a session that began with these entries, the line of this place was answered by the entry of this number:
+pub record IsReusedLine (p : NumberedProgram) (quantum : ℕ) (given : List EntryParts) (inputs : List (Option (List ℤ))) (answers : List Answer) (line number : ℕ) : Type 0 where
   -- the line was this input, and this was answered: what was printed, and how the run ended
   pub input : List ℤ
   pub is_input : slice_get inputs line ≡ Some (Some input)
   pub output : List ℕ
   pub end : EndLine
   pub is_answer : slice_get answers line ≡ Some (record { kind = Reused number; output = output; end = Some end })
-  -- an earlier line was recorded, as the entry of that number
+  -- an earlier line was recorded as the entry of that number, or the session began with it
   pub entry : EntryParts
-  pub earlier : ℕ
-  pub before : earlier < line
-  pub made : IsRecordedLine p quantum inputs answers earlier number entry
+  pub origin : HasOrigin p quantum given inputs answers line number entry
   -- the entry's precondition admits the input
   pub admitted : is_admitted input entry.precondition ≡ true
   -- the reply is that of the guided run along the entry's schedule

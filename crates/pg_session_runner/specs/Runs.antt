@@ -11,7 +11,7 @@ use Rattle.pg_law_runs.specs.Cuts.{CanRun}
 use Rattle.pg_session_texts.specs.declared.reply.EndLine.{EndLine}
 use Rattle.pg_session_texts.specs.declared.reply.EndLine.TheVariants as ends
 use Rattle.pg_session_texts.specs.Shows.{show_text}
-use Rattle.pg_session_entry.specs.Entries.{EntryParts, IsEntry}
+use Rattle.pg_session_entry.specs.Entries.{EntryParts, IsEntry, IsEntryOfTurns}
 use Rattle.pg_law_order.specs.Served.{IsServed, guided_along}
 use Rattle.pg_run.specs.declared.outcome.Refusal.{Refusal}
 use Rattle.pg_session.specs.Sessions.{Runs}
@@ -34,6 +34,12 @@ pub record IsKept (p : NumberedProgram) (quantum : ℕ) (input : List ℤ) (entr
 pub record IsNotKept (p : NumberedProgram) (quantum : ℕ) (input : List ℤ) (refusal : Refusal) (output : List ℕ) : Type 0 where
   pub ends : (rotation_of p input quantum).end ≡ outcomes.Refused refusal
   pub printed : output ≡ (rotation_of p input quantum).state.printed
+
+-- ---- given turns
+
+-- an entry of given turns: that of the guided run on its input along its turns, where its loads and stores are turns
+abbrev pub IsGiven : NumberedProgram → EntryParts → Type 0
+IsGiven p entry = IsEntryOfTurns p entry.input entry.schedule.turns entry.schedule.gated entry
 
 -- ---- runs along an entry's schedule
 
@@ -61,7 +67,7 @@ pub record Subject : Type 0 where
 
 -- the runs of a program, recorded in rotation with this quantum
 abbrev pub runs_of : NumberedProgram → ℕ → Runs EntryParts
-runs_of p quantum = record { recorded = IsKept p quantum; refused = IsNotKept p quantum; along = RunsAlong p }
+runs_of p quantum = record { recorded = IsKept p quantum; refused = IsNotKept p quantum; along = RunsAlong p; given = IsGiven p }
 
 -- what an input must give so that an entry's schedule serves it
 abbrev pub entry_admits : EntryParts → List ℤ → Bool

@@ -1,5 +1,5 @@
 //! What holds of the entries of a program and of a session's lines: each law is the clause of a function that does nothing.
-ghost use Rattle.std.specs.Prelude.{◌≡◌, ◌<◌, ◌^◌, ℕ, ℤ, List, length, true, Option, Some, slice_get};
+ghost use Rattle.std.specs.Prelude.{◌≡◌, ◌<◌, ◌^◌, ℕ, ℤ, All, List, length, true, Option, Some, slice_get};
 ghost use Rattle.pg_ir.specs.Program.{NumberedProgram};
 ghost use Rattle.pg_cache.specs.Kept.{Kept};
 ghost use Rattle.pg_run.specs.Rotation.{rotation_of};
@@ -9,12 +9,12 @@ ghost use Rattle.pg_session_texts.specs.declared.reply.ReplyKind.TheVariants.{Re
 ghost use Rattle.pg_session_entry.specs.Entries.{EntryParts, IsEntry};
 ghost use Rattle.pg_law_order.specs.Good.{IsGoodRun};
 ghost use Rattle.pg_law_order.specs.Served.{IsServed};
-ghost use Rattle.pg_session.specs.Sessions.{Answer, AnswersAll, begin};
+ghost use Rattle.pg_session.specs.Sessions.{Answer, AnswersAll, IsEntryOf, opened};
 ghost use Rattle.pg_session_runner.specs.Headline.{IsReusedLine, IsServedRecording};
-ghost use Rattle.pg_session_runner.specs.Runs.{IsKept, entry_admits, runs_of};
+ghost use Rattle.pg_session_runner.specs.Runs.{IsGiven, IsKept, entry_admits, runs_of};
 
 use pg_law_order::recorded::the_schedule_of_a_rotation_run_is_good;
-use pg_law_reuse::laws::an_entry_serves_what_it_admits;
+use pg_law_reuse::laws::{an_entry_of_turns_serves_what_it_admits, an_entry_serves_what_it_admits};
 use pg_run::Outcome;
 
 /// The schedule of a recorded run has so few turns that 32 bits count them.
@@ -36,23 +36,36 @@ pub fn a_kept_entry_serves_what_it_admits()
     an_entry_serves_what_it_admits();
 }
 
-/// In a session that records the runs of a program with this quantum, each line that is answered by reuse is answered by an entry
-/// that an earlier line left and that admits the line's input, and the reply is that of every run of the program on the input that
-/// the entry's turns permit: each goes on until it is full, is ordered, printed the same, and ended in the same way.
+/// Each entry of a program, of a recording or of given turns, has a good run on each input that its precondition admits, and its
+/// schedule serves the input.
+pub fn each_entry_serves_what_it_admits()
+    ensures good { (p : NumberedProgram) (quantum : ℕ) (input : List ℤ) (entry : EntryParts) → CanRun p entry.input → IsEntryOf (runs_of p quantum) entry → length input < 2 ^ 64
+        → entry_admits entry input ≡ true → IsGoodRun p input entry.schedule }
+    ensures served { (p : NumberedProgram) (quantum : ℕ) (input : List ℤ) (entry : EntryParts) → CanRun p entry.input → IsEntryOf (runs_of p quantum) entry → length input < 2 ^ 64
+        → entry_admits entry input ≡ true → IsServed p input entry.schedule }
+{
+    a_kept_entry_serves_what_it_admits();
+    an_entry_of_turns_serves_what_it_admits();
+}
+
+/// In a session that begins with entries of given turns and records the runs of a program with this quantum, each line that is
+/// answered by reuse is answered by an entry that an earlier line left, or by one with which the session began, and that admits
+/// the line's input; and the reply is that of every run of the program on the input that the entry's turns permit: each goes on
+/// until it is full, is ordered, printed the same, and ended in the same way.
 pub fn each_reused_line_is_served()
-    ensures { (p : NumberedProgram) (quantum : ℕ) (inputs : List (Option (List ℤ))) (answers : List Answer) (kept : Kept EntryParts)
-        → AnswersAll entry_admits (runs_of p quantum) begin inputs answers kept
+    ensures { (p : NumberedProgram) (quantum : ℕ) (given : List EntryParts) (inputs : List (Option (List ℤ))) (answers : List Answer) (kept : Kept EntryParts)
+        → All (IsGiven p) given → AnswersAll entry_admits (runs_of p quantum) (opened given) inputs answers kept
         → (line number : ℕ) (answer : Answer) → slice_get answers line ≡ Some answer → answer.kind ≡ Reused number
-        → IsReusedLine p quantum inputs answers line number }
+        → IsReusedLine p quantum given inputs answers line number }
 {}
 
 /// And each line that is recorded gets the reply of every run of the program on the line's input that the turns of its own entry
 /// permit.
 pub fn each_recorded_line_is_served()
-    ensures { (p : NumberedProgram) (quantum : ℕ) (inputs : List (Option (List ℤ))) (answers : List Answer) (kept : Kept EntryParts)
-        → AnswersAll entry_admits (runs_of p quantum) begin inputs answers kept → (line number : ℕ) (answer : Answer)
+    ensures { (p : NumberedProgram) (quantum : ℕ) (given : List EntryParts) (inputs : List (Option (List ℤ))) (answers : List Answer) (kept : Kept EntryParts)
+        → AnswersAll entry_admits (runs_of p quantum) (opened given) inputs answers kept → (line number : ℕ) (answer : Answer)
         → slice_get answers line ≡ Some answer → answer.kind ≡ Recorded number
-        → IsServedRecording p quantum inputs answers line number }
+        → IsServedRecording p quantum given inputs answers line number }
 {
     the_schedule_of_a_rotation_run_is_good();
 }

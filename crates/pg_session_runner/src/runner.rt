@@ -1,7 +1,7 @@
 //! The program that a session runs.
 
 use crate::along::{own_input_is_small, ran};
-use crate::laws::a_kept_entry_serves_what_it_admits;
+use crate::laws::each_entry_serves_what_it_admits;
 use crate::recording::recorded;
 use pg_ir::Program;
 use pg_session::{Recording, Run, Runner};
@@ -61,7 +61,7 @@ impl<'a> Runner for ProgramRunner<'a> {
         entry: &Entry,
         input: &[i64],
     ) -> Result<Run, AllocError> {
-        a_kept_entry_serves_what_it_admits();
+        each_entry_serves_what_it_admits();
         own_input_is_small(entry);
         ran(alloc, self.program, entry, input)
     }

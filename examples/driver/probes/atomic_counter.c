@@ -1,5 +1,8 @@
 #include "peregrine.h"
 #include <stdatomic.h>
 int main(void) {
-atomic_long n = 0; n++; pg_out(n); return 0;
+atomic_long n = 0;
+n++; // refused here
+pg_out(n);
+return 0;
 }

@@ -1,6 +1,7 @@
 #include "peregrine.h"
 #include <stdlib.h>
-void f(void) { exit(3); }
+void f(void) { exit(3); } // refused here
 int main(void) {
-f(); return 0;
+f();
+return 0;
 }

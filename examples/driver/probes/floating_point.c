@@ -1,5 +1,7 @@
 #include "peregrine.h"
 
 int main(void) {
-double d = pg_in(0) + 1.5; pg_out((long)d); return 0;
+double d = pg_in(0) + 1.5; // refused here
+pg_out((long)d);
+return 0;
 }

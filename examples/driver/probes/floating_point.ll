@@ -4,33 +4,59 @@ target datalayout = "e-m:e-p270:32:32-p271:32:32-p272:64:64-i64:64-f80:128-n8:16
 target triple = "x86_64-pc-linux-gnu"
 
 ; Function Attrs: noinline nounwind optnone uwtable
-define dso_local i32 @main() #0 {
+define dso_local i32 @main() #0 !dbg !12 {
   %1 = alloca i32, align 4
   %2 = alloca double, align 8
   store i32 0, ptr %1, align 4
-  %3 = call i64 @pg_in(i64 noundef 0)
-  %4 = sitofp i64 %3 to double
-  %5 = fadd double %4, 1.500000e+00
-  store double %5, ptr %2, align 8
-  %6 = load double, ptr %2, align 8
-  %7 = fptosi double %6 to i64
-  call void @pg_out(i64 noundef %7)
-  ret i32 0
+  call void @llvm.dbg.declare(metadata ptr %2, metadata !17, metadata !DIExpression()), !dbg !19
+  %3 = call i64 @pg_in(i64 noundef 0), !dbg !20
+  %4 = sitofp i64 %3 to double, !dbg !20
+  %5 = fadd double %4, 1.500000e+00, !dbg !21
+  store double %5, ptr %2, align 8, !dbg !19
+  %6 = load double, ptr %2, align 8, !dbg !22
+  %7 = fptosi double %6 to i64, !dbg !23
+  call void @pg_out(i64 noundef %7), !dbg !24
+  ret i32 0, !dbg !25
 }
 
-declare i64 @pg_in(i64 noundef) #1
+; Function Attrs: nocallback nofree nosync nounwind speculatable willreturn memory(none)
+declare void @llvm.dbg.declare(metadata, metadata, metadata) #1
 
-declare void @pg_out(i64 noundef) #1
+declare i64 @pg_in(i64 noundef) #2
+
+declare void @pg_out(i64 noundef) #2
 
 attributes #0 = { noinline nounwind optnone uwtable "frame-pointer"="all" "min-legal-vector-width"="0" "no-trapping-math"="true" "stack-protector-buffer-size"="8" "target-cpu"="x86-64" "target-features"="+cx8,+fxsr,+mmx,+sse,+sse2,+x87" "tune-cpu"="generic" }
-attributes #1 = { "frame-pointer"="all" "no-trapping-math"="true" "stack-protector-buffer-size"="8" "target-cpu"="x86-64" "target-features"="+cx8,+fxsr,+mmx,+sse,+sse2,+x87" "tune-cpu"="generic" }
+attributes #1 = { nocallback nofree nosync nounwind speculatable willreturn memory(none) }
+attributes #2 = { "frame-pointer"="all" "no-trapping-math"="true" "stack-protector-buffer-size"="8" "target-cpu"="x86-64" "target-features"="+cx8,+fxsr,+mmx,+sse,+sse2,+x87" "tune-cpu"="generic" }
 
-!llvm.module.flags = !{!0, !1, !2, !3, !4}
-!llvm.ident = !{!5}
+!llvm.dbg.cu = !{!0}
+!llvm.module.flags = !{!4, !5, !6, !7, !8, !9, !10}
+!llvm.ident = !{!11}
 
-!0 = !{i32 1, !"wchar_size", i32 4}
-!1 = !{i32 8, !"PIC Level", i32 2}
-!2 = !{i32 7, !"PIE Level", i32 2}
-!3 = !{i32 7, !"uwtable", i32 2}
-!4 = !{i32 7, !"frame-pointer", i32 2}
-!5 = !{!"Debian clang version 16.0.6 (15~deb12u1)"}
+!0 = distinct !DICompileUnit(language: DW_LANG_C11, file: !1, producer: "Debian clang version 16.0.6 (15~deb12u1)", isOptimized: false, runtimeVersion: 0, emissionKind: FullDebug, retainedTypes: !2, splitDebugInlining: false, nameTableKind: None)
+!1 = !DIFile(filename: "driver/probes/floating_point.c", directory: ".", checksumkind: CSK_MD5, checksum: "fc5143f1d96fe0a3134f553c94a1bc0d")
+!2 = !{!3}
+!3 = !DIBasicType(name: "long", size: 64, encoding: DW_ATE_signed)
+!4 = !{i32 7, !"Dwarf Version", i32 5}
+!5 = !{i32 2, !"Debug Info Version", i32 3}
+!6 = !{i32 1, !"wchar_size", i32 4}
+!7 = !{i32 8, !"PIC Level", i32 2}
+!8 = !{i32 7, !"PIE Level", i32 2}
+!9 = !{i32 7, !"uwtable", i32 2}
+!10 = !{i32 7, !"frame-pointer", i32 2}
+!11 = !{!"Debian clang version 16.0.6 (15~deb12u1)"}
+!12 = distinct !DISubprogram(name: "main", scope: !1, file: !1, line: 3, type: !13, scopeLine: 3, flags: DIFlagPrototyped, spFlags: DISPFlagDefinition, unit: !0, retainedNodes: !16)
+!13 = !DISubroutineType(types: !14)
+!14 = !{!15}
+!15 = !DIBasicType(name: "int", size: 32, encoding: DW_ATE_signed)
+!16 = !{}
+!17 = !DILocalVariable(name: "d", scope: !12, file: !1, line: 4, type: !18)
+!18 = !DIBasicType(name: "double", size: 64, encoding: DW_ATE_float)
+!19 = !DILocation(line: 4, column: 8, scope: !12)
+!20 = !DILocation(line: 4, column: 12, scope: !12)
+!21 = !DILocation(line: 4, column: 21, scope: !12)
+!22 = !DILocation(line: 5, column: 14, scope: !12)
+!23 = !DILocation(line: 5, column: 8, scope: !12)
+!24 = !DILocation(line: 5, column: 1, scope: !12)
+!25 = !DILocation(line: 6, column: 1, scope: !12)

@@ -4,51 +4,89 @@ target datalayout = "e-m:e-p270:32:32-p271:32:32-p272:64:64-i64:64-f80:128-n8:16
 target triple = "x86_64-pc-linux-gnu"
 
 ; Function Attrs: noinline nounwind optnone uwtable
-define dso_local i32 @main() #0 {
+define dso_local i32 @main() #0 !dbg !10 {
   %1 = alloca i32, align 4
   %2 = alloca ptr, align 8
   store i32 0, ptr %1, align 4
-  %3 = call i64 @pg_in(i64 noundef 0)
-  %4 = icmp ne i64 %3, 0
-  %5 = zext i1 %4 to i64
-  %6 = select i1 %4, ptr @one, ptr @two
-  store ptr %6, ptr %2, align 8
-  %7 = load ptr, ptr %2, align 8
-  %8 = call i64 %7(i64 noundef 1)
-  call void @pg_out(i64 noundef %8)
-  ret i32 0
+  call void @llvm.dbg.declare(metadata ptr %2, metadata !15, metadata !DIExpression()), !dbg !20
+  %3 = call i64 @pg_in(i64 noundef 0), !dbg !21
+  %4 = icmp ne i64 %3, 0, !dbg !21
+  %5 = zext i1 %4 to i64, !dbg !21
+  %6 = select i1 %4, ptr @one, ptr @two, !dbg !21
+  store ptr %6, ptr %2, align 8, !dbg !20
+  %7 = load ptr, ptr %2, align 8, !dbg !22
+  %8 = call i64 %7(i64 noundef 1), !dbg !22
+  call void @pg_out(i64 noundef %8), !dbg !23
+  ret i32 0, !dbg !24
 }
 
-declare i64 @pg_in(i64 noundef) #1
+; Function Attrs: nocallback nofree nosync nounwind speculatable willreturn memory(none)
+declare void @llvm.dbg.declare(metadata, metadata, metadata) #1
+
+declare i64 @pg_in(i64 noundef) #2
 
 ; Function Attrs: noinline nounwind optnone uwtable
-define internal i64 @one(i64 noundef %0) #0 {
+define internal i64 @one(i64 noundef %0) #0 !dbg !25 {
   %2 = alloca i64, align 8
   store i64 %0, ptr %2, align 8
-  %3 = load i64, ptr %2, align 8
-  ret i64 %3
+  call void @llvm.dbg.declare(metadata ptr %2, metadata !26, metadata !DIExpression()), !dbg !27
+  %3 = load i64, ptr %2, align 8, !dbg !28
+  ret i64 %3, !dbg !29
 }
 
 ; Function Attrs: noinline nounwind optnone uwtable
-define internal i64 @two(i64 noundef %0) #0 {
+define internal i64 @two(i64 noundef %0) #0 !dbg !30 {
   %2 = alloca i64, align 8
   store i64 %0, ptr %2, align 8
-  %3 = load i64, ptr %2, align 8
-  %4 = add nsw i64 %3, 1
-  ret i64 %4
+  call void @llvm.dbg.declare(metadata ptr %2, metadata !31, metadata !DIExpression()), !dbg !32
+  %3 = load i64, ptr %2, align 8, !dbg !33
+  %4 = add nsw i64 %3, 1, !dbg !34
+  ret i64 %4, !dbg !35
 }
 
-declare void @pg_out(i64 noundef) #1
+declare void @pg_out(i64 noundef) #2
 
 attributes #0 = { noinline nounwind optnone uwtable "frame-pointer"="all" "min-legal-vector-width"="0" "no-trapping-math"="true" "stack-protector-buffer-size"="8" "target-cpu"="x86-64" "target-features"="+cx8,+fxsr,+mmx,+sse,+sse2,+x87" "tune-cpu"="generic" }
-attributes #1 = { "frame-pointer"="all" "no-trapping-math"="true" "stack-protector-buffer-size"="8" "target-cpu"="x86-64" "target-features"="+cx8,+fxsr,+mmx,+sse,+sse2,+x87" "tune-cpu"="generic" }
+attributes #1 = { nocallback nofree nosync nounwind speculatable willreturn memory(none) }
+attributes #2 = { "frame-pointer"="all" "no-trapping-math"="true" "stack-protector-buffer-size"="8" "target-cpu"="x86-64" "target-features"="+cx8,+fxsr,+mmx,+sse,+sse2,+x87" "tune-cpu"="generic" }
 
-!llvm.module.flags = !{!0, !1, !2, !3, !4}
-!llvm.ident = !{!5}
+!llvm.dbg.cu = !{!0}
+!llvm.module.flags = !{!2, !3, !4, !5, !6, !7, !8}
+!llvm.ident = !{!9}
 
-!0 = !{i32 1, !"wchar_size", i32 4}
-!1 = !{i32 8, !"PIC Level", i32 2}
-!2 = !{i32 7, !"PIE Level", i32 2}
-!3 = !{i32 7, !"uwtable", i32 2}
-!4 = !{i32 7, !"frame-pointer", i32 2}
-!5 = !{!"Debian clang version 16.0.6 (15~deb12u1)"}
+!0 = distinct !DICompileUnit(language: DW_LANG_C11, file: !1, producer: "Debian clang version 16.0.6 (15~deb12u1)", isOptimized: false, runtimeVersion: 0, emissionKind: FullDebug, splitDebugInlining: false, nameTableKind: None)
+!1 = !DIFile(filename: "driver/probes/function_pointer.c", directory: ".", checksumkind: CSK_MD5, checksum: "a4196383e2335daf3072e43264607bbf")
+!2 = !{i32 7, !"Dwarf Version", i32 5}
+!3 = !{i32 2, !"Debug Info Version", i32 3}
+!4 = !{i32 1, !"wchar_size", i32 4}
+!5 = !{i32 8, !"PIC Level", i32 2}
+!6 = !{i32 7, !"PIE Level", i32 2}
+!7 = !{i32 7, !"uwtable", i32 2}
+!8 = !{i32 7, !"frame-pointer", i32 2}
+!9 = !{!"Debian clang version 16.0.6 (15~deb12u1)"}
+!10 = distinct !DISubprogram(name: "main", scope: !1, file: !1, line: 3, type: !11, scopeLine: 3, flags: DIFlagPrototyped, spFlags: DISPFlagDefinition, unit: !0, retainedNodes: !14)
+!11 = !DISubroutineType(types: !12)
+!12 = !{!13}
+!13 = !DIBasicType(name: "int", size: 32, encoding: DW_ATE_signed)
+!14 = !{}
+!15 = !DILocalVariable(name: "f", scope: !10, file: !1, line: 4, type: !16)
+!16 = !DIDerivedType(tag: DW_TAG_pointer_type, baseType: !17, size: 64)
+!17 = !DISubroutineType(types: !18)
+!18 = !{!19, !19}
+!19 = !DIBasicType(name: "long", size: 64, encoding: DW_ATE_signed)
+!20 = !DILocation(line: 4, column: 8, scope: !10)
+!21 = !DILocation(line: 4, column: 19, scope: !10)
+!22 = !DILocation(line: 5, column: 8, scope: !10)
+!23 = !DILocation(line: 5, column: 1, scope: !10)
+!24 = !DILocation(line: 6, column: 1, scope: !10)
+!25 = distinct !DISubprogram(name: "one", scope: !1, file: !1, line: 2, type: !17, scopeLine: 2, flags: DIFlagPrototyped, spFlags: DISPFlagLocalToUnit | DISPFlagDefinition, unit: !0, retainedNodes: !14)
+!26 = !DILocalVariable(name: "x", arg: 1, scope: !25, file: !1, line: 2, type: !19)
+!27 = !DILocation(line: 2, column: 22, scope: !25)
+!28 = !DILocation(line: 2, column: 34, scope: !25)
+!29 = !DILocation(line: 2, column: 27, scope: !25)
+!30 = distinct !DISubprogram(name: "two", scope: !1, file: !1, line: 2, type: !17, scopeLine: 2, flags: DIFlagPrototyped, spFlags: DISPFlagLocalToUnit | DISPFlagDefinition, unit: !0, retainedNodes: !14)
+!31 = !DILocalVariable(name: "x", arg: 1, scope: !30, file: !1, line: 2, type: !19)
+!32 = !DILocation(line: 2, column: 60, scope: !30)
+!33 = !DILocation(line: 2, column: 72, scope: !30)
+!34 = !DILocation(line: 2, column: 74, scope: !30)
+!35 = !DILocation(line: 2, column: 65, scope: !30)

@@ -1,5 +1,6 @@
 #include "peregrine.h"
 
 int main(void) {
-__asm__("nop"); return 0;
+__asm__("nop"); // refused here
+return 0;
 }

@@ -1,2 +1,5 @@
 #include "peregrine.h"
-int main(int argc, char **argv) { pg_out(argc); return 0; }
+int main(int argc, char **argv) {
+pg_out(argc); // refused here
+return 0;
+}

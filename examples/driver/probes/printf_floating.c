@@ -1,5 +1,6 @@
 #include <stdio.h>
 
 int main(void) {
-printf("%f\n", 1.5); return 0;
+printf("%f\n", 1.5); // refused here
+return 0;
 }

@@ -1,5 +1,7 @@
 #include <stdio.h>
 
 int main(void) {
-const char *f = "%d\n"; printf(f, 3); return 0;
+const char *f = "%d\n";
+printf(f, 3); // refused here
+return 0;
 }

@@ -1,5 +1,7 @@
 #include <stdio.h>
 
 int main(void) {
-int n; scanf("%d", &n); return n;
+int n;
+scanf("%d", &n); // refused here
+return n;
 }

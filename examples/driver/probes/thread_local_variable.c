@@ -1,5 +1,7 @@
 #include "peregrine.h"
-static _Thread_local int n;
+static _Thread_local int n; // refused here
 int main(void) {
-n = 3; pg_out(n); return 0;
+n = 3;
+pg_out(n);
+return 0;
 }

@@ -3,7 +3,7 @@ ghost use Rattle.std.specs.Prelude.{◌≡◌, true, None};
 
 use crate::sessions::made::Sums;
 use pg_io::{Failed, Sink, Source};
-use pg_session::serve;
+use pg_session::{begin, serve};
 use std::cell::Cell;
 use std::test::Fail;
 
@@ -66,7 +66,16 @@ fn each_reply_is_one_write_before_the_next_read(rt: HostRuntime) -> Result<(), F
         ended: false,
     };
     let mut out = Listener { writes: &writes };
-    assert_eq!(rt; serve(rt.alloc(), &mut Sums, &mut src, &mut out), Ok(()));
+    assert_eq!(rt;
+        serve(
+            rt.alloc(),
+            &mut Sums,
+            begin(rt.alloc())?,
+            &mut src,
+            &mut out
+        ),
+        Ok(())
+    );
     assert_eq!(rt; src.lines, MOST);
     assert_eq!(rt; writes.get(), MOST);
     Ok(())

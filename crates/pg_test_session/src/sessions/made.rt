@@ -5,7 +5,8 @@ ghost use Rattle.pg_session.specs.Sessions.{Runs};
 
 use pg_cache::Admits;
 use pg_ir::{InstrId, TrapName};
-use pg_session::{Recording, Refusal, Run, Runner};
+use pg_run::Refusal;
+use pg_session::{Recording, Run, Runner};
 use pg_session_texts::EndLine;
 use std::alloc::{AllocError, Global};
 
@@ -55,6 +56,7 @@ impl Runner for Sums {
       recorded = λ _ _ _ _. Unit {0};
       refused = λ _ _ _. Unit {0};
       along = λ _ _ _ _. Unit {0};
+      given = λ _. ⊥;
     } };
 
     fn record(&mut self, alloc: Global, input: &[i64]) -> Result<Recording<Length>, AllocError> {

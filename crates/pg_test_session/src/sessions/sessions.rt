@@ -3,7 +3,7 @@ ghost use Rattle.std.specs.Prelude.{◌<◌};
 
 use crate::sessions::made::Sums;
 use pg_io::{MemorySink, MemorySource};
-use pg_session::{ServeFault, serve};
+use pg_session::{ServeFault, begin, serve};
 use std::alloc::{AllocError, Global};
 use std::test::Fail;
 
@@ -27,7 +27,8 @@ fn session_of(
     let mut src = MemorySource::new(input.to_vec(alloc)?, piece, failing);
     let failing = writes.to_vec(alloc)?;
     let mut out = MemorySink::new(alloc, 4_000, failing)?;
-    let end = serve(alloc, &mut Sums, &mut src, &mut out);
+    let first = begin(alloc)?;
+    let end = serve(alloc, &mut Sums, first, &mut src, &mut out);
     Ok(Written {
         end,
         text: out.bytes().to_vec(alloc)?,

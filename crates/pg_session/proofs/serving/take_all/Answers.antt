@@ -10,10 +10,10 @@ pub returns-in_err-ended-clause-input_limit : goal.returns-in_err-ended-clause-i
 returns-in_err-ended-clause-input_limit g c = λ x. absurd (c.in_err-ended.ensures.within (same_fault _ _ _ c.from_residual.ensures.1 x))
 
 pub returns-in_err-ended-clause-read_fault : goal.returns-in_err-ended-clause-read_fault
-returns-in_err-ended-clause-read_fault g c = λ x. answered_of _ _ _ _ _ _ (c.in_err-ended.ensures.read_fault (same_fault _ _ _ c.from_residual.ensures.1 x))
+returns-in_err-ended-clause-read_fault g c = λ x. answered_of _ _ _ _ _ _ _ (c.in_err-ended.ensures.read_fault (same_fault _ _ _ c.from_residual.ensures.1 x))
 
 pub returns-in_err-ended-clause-cut : goal.returns-in_err-ended-clause-cut
-returns-in_err-ended-clause-cut g c = λ x. front_of _ _ _ _ _ _ (c.in_err-ended.ensures.cut (same_faults _ _ _ _ c.from_residual.ensures.1 x))
+returns-in_err-ended-clause-cut g c = λ x. front_of _ _ _ _ _ _ _ (c.in_err-ended.ensures.cut (same_faults _ _ _ _ c.from_residual.ensures.1 x))
 
 pub returns-in_err-ended-clause-takes : goal.returns-in_err-ended-clause-takes
 returns-in_err-ended-clause-takes g c = takes_within _ _ _ _ (omega arith) c.take_pieces.ensures.takes
@@ -21,7 +21,7 @@ returns-in_err-ended-clause-takes g c = takes_within _ _ _ _ (omega arith) c.tak
 -- the source ended
 
 pub returns-then-ended-clause-all : goal.returns-then-ended-clause-all
-returns-then-ended-clause-all g c = all_of _ _ _ _ _ _ _ _ _ c.if-ended.true c.in_ok-ended.ensures.taken
+returns-then-ended-clause-all g c = all_of _ _ _ _ _ _ _ _ _ _ c.if-ended.true c.in_ok-ended.ensures.taken
 
 pub returns-then-ended-clause-cut : goal.returns-then-ended-clause-cut
 returns-then-ended-clause-cut g c = no_fault _ _ _
@@ -39,11 +39,11 @@ returns-then-ended-clause-write_count g c = inr (not-fault _ _ c.in_ok-ended.ens
 
 pub returns-in_err-must_end-clause-input_limit : goal.returns-in_err-must_end-clause-input_limit
 returns-in_err-must_end-clause-input_limit g c = λ x.
-    limit_of _ _ _ _ _ _ _ _ _ c.if-ended.false (c.in_err-must_end.ensures.more (same_fault _ _ _ c.from_residual-in_err-must_end.ensures.1 x)) c.in_ok-ended.ensures.taken
+    limit_of _ _ _ _ _ _ _ _ _ _ c.if-ended.false (c.in_err-must_end.ensures.more (same_fault _ _ _ c.from_residual-in_err-must_end.ensures.1 x)) c.in_ok-ended.ensures.taken
 
 pub returns-in_err-must_end-clause-read_fault : goal.returns-in_err-must_end-clause-read_fault
 returns-in_err-must_end-clause-read_fault g c = λ x.
-    taken_of _ _ _ _ _ _ _ _ _ _ (c.in_err-must_end.ensures.fault_takes_none (same_fault _ _ _ c.from_residual-in_err-must_end.ensures.1 x)) c.in_ok-ended.ensures.taken
+    taken_of _ _ _ _ _ _ _ _ _ _ _ (c.in_err-must_end.ensures.fault_takes_none (same_fault _ _ _ c.from_residual-in_err-must_end.ensures.1 x)) c.in_ok-ended.ensures.taken
 
 pub returns-in_err-must_end-clause-cut : goal.returns-in_err-must_end-clause-cut
 returns-in_err-must_end-clause-cut g c = no_faults _ _ _ _ c.from_residual-in_err-must_end.ensures.1 c.in_err-must_end.ensures.no_write c.in_err-must_end.ensures.no_memory
@@ -72,7 +72,7 @@ returns-in_err-must_end-clause-write_count g c = inr (not-fault _ _ c.in_ok-ende
 -- it has as many bytes as a session takes
 
 pub returns-clause-all : goal.returns-clause-all
-returns-clause-all g c = all_of_full _ _ _ _ _ _ _ _ _ c.in_ok-must_end.ensures.ended c.in_ok-ended.ensures.taken
+returns-clause-all g c = all_of_full _ _ _ _ _ _ _ _ _ _ c.in_ok-must_end.ensures.ended c.in_ok-ended.ensures.taken
 
 pub returns-clause-cut : goal.returns-clause-cut
 returns-clause-cut g c = no_fault _ _ _

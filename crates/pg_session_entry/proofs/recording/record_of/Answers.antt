@@ -1,6 +1,6 @@
 use Rattle.std.proofs.Common.{◌≡◌, rules}
 use Rattle.pg_run.specs.declared.outcome.Outcome.TheVariants as ends
-use Rattle.pg_session_entry.proofs.Serves.{recorded_of}
+use Rattle.pg_session_entry.proofs.EntryParts.{recorded_of}
 use Rattle.pg_session_entry.proofs.recording.record_of.Goals as goal
 
 pub entry_of-requires-clause-recorded : goal.entry_of-requires-clause-recorded

@@ -1,4 +1,4 @@
-use Rattle.std.proofs.Common.{◌≡◌, ◌×◌, ◌⊎◌, ◌<◌, ◌-◌, ◌*◌, ◌^◌}
+use Rattle.std.proofs.Common.{◌≡◌, ◌⊎◌, ◌<◌, ◌-◌, ◌*◌, ◌^◌}
 use Rattle.pg_slice_conflicts.proofs.tree.tree_over.Given as goal
 
 abbrev pub invariant-loop-levels : goal.invariant-loop-levels

@@ -1,0 +1,6 @@
+#include <stdio.h>
+
+int main(void) {
+    fputs("text", stderr); // refused here
+    return 0;
+}
