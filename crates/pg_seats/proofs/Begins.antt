@@ -1,11 +1,11 @@
 -- The words at rest, and made ready for a run.
-use Rattle.std.proofs.Common.{◌≡◌, ◌≢◌, ℕ, zero, suc, [], ◌∷◌, ◌++◌, ◌+◌, ◌-◌, ◌*◌, ◌/◌, ◌%◌, ◌^◌, ◌<◌, ◌≤◌, ◌⊎◌, inl, inr, ⊎_elim, Bool, true, false, length, Option, Some, None, List, set, get_or, refl, sym, ap, ◌∙◌, subst, arith, length-set, get_or-set_same, get_or-set_other}
-use Rattle.std.specs.Prelude.{slice_get, slice_index, nat_lt, if◌then◌else◌}
+use Rattle.std.proofs.Common.{◌≡◌, ◌≢◌, ℕ, zero, suc, [], ◌∷◌, ◌+◌, ◌-◌, ◌*◌, ◌/◌, ◌%◌, ◌^◌, ◌<◌, ◌≤◌, ◌⊎◌, inl, inr, ⊎_elim, true, length, List, set, refl, sym, ap, ◌∙◌, subst, arith, length-set, get_or-set_same, get_or-set_other}
+use Rattle.std.specs.Prelude.{slice_get, slice_index}
 use Rattle.std.specs.List.{AllByRecursion as AllOf}
 use Rattle.std.proofs.lemmas.Bool.{cases_lt, cases_eq, lt-ltb, le-ltb}
 use mathlib.Core.Option.{some, some-injective, some-ne-none}
 use lib.ListN.{get_elem?}
-use Rattle.atomic_table.specs.Table.{State, Allows, keeps, opening}
+use Rattle.atomic_table.specs.Table.{State, keeps, opening}
 use Rattle.atomic_table.proofs.Lists.{at_set}
 use Rattle.pg_num.specs.Places.{ByteRange}
 use Rattle.pg_num.specs.declared.layout.TheConstants.{GRANULE_COUNT, MEMORY_BYTES}
@@ -14,11 +14,10 @@ use Rattle.pg_ir.specs.Program.{NumberedProgram}
 use Rattle.pg_run_memory.specs.Bytes.{byte_of}
 use Rattle.pg_run_memory.specs.Initial as memory
 use Rattle.pg_run_memory.specs.Initial.{initial_byte}
-use Rattle.pg_run_memory.specs.Memory.{byte_at}
 use Rattle.pg_run_memory.proofs.ReadsAndWrites.{byte_at-memory_of}
-use Rattle.pg_law_threads.specs.Cuts.{Mark, pending, kept, whole, IsCut, IsBelow, IsWithin, count_done}
+use Rattle.pg_law_threads.specs.Cuts.{Mark, pending, kept, whole, IsCut, IsBelow, count_done}
 use Rattle.pg_law_threads.specs.Effects.{deeds}
-use Rattle.pg_law_threads.specs.Intervals.{Timed, times, turns_done, did_of}
+use Rattle.pg_law_threads.specs.Intervals.{Timed, times, did_of}
 use Rattle.pg_law_threads.specs.Standing.{Stands, done_of, left_by}
 use Rattle.pg_run.specs.State.{initial}
 use Rattle.pg_law_effects.specs.Views.{cell_at}
@@ -27,12 +26,11 @@ use Rattle.pg_law_runs.specs.Deeds.{Did}
 use Rattle.pg_words.specs.Calls.{AllowsLoad, AllowsStore, NoSlot, granule_word}
 use Rattle.pg_words.specs.declared.layout.TheConstants.{GRANULE_WORDS, THREAD_WORDS, TURN_WORD, WORD_COUNT}
 use Rattle.pg_seats.specs.declared.run.Run.{Run}
-use Rattle.pg_seats.specs.declared.run.Standing.{Standing}
 use Rattle.pg_seats.specs.declared.run.View.{View}
 use Rattle.pg_seats.specs.declared.run.View.TheVariants.{Idle, Laying, Pool, Worker, Note, Spent}
 use Rattle.pg_seats.specs.Plan.{IsEnforced, first_of, plan_of, turns_in}
-use Rattle.pg_seats.specs.Views.{laid, may_begin, MayLay, MayOpen, pooled}
-use Rattle.pg_seats.specs.Rule.{cell_in, Fits, HasSeat, Holds, IsAlone, Keeps, Lays, Rests, Seats}
+use Rattle.pg_seats.specs.Views.{may_begin, MayLay, MayOpen}
+use Rattle.pg_seats.specs.Rule.{cell_in, Fits, Holds, IsAlone, Keeps, Lays, Rests, Seats}
 use Rattle.pg_seats.specs.Plays as plays
 use Rattle.pg_seats.specs.Plays.{Place}
 use Rattle.pg_seats.proofs.Cells.{set_same}

@@ -1,19 +1,18 @@
 -- One seat's view changes, and the words may too: what has to hold so that the rule is kept.
-use Rattle.std.proofs.Common.{◌≡◌, ◌≢◌, ℕ, zero, suc, [], ◌∷◌, ◌+◌, ◌<◌, ◌≤◌, ◌⊎◌, inl, inr, ⊎_elim, ◌==◌, ◌&&◌, Bool, true, false, length, List, Option, Some, None, set, refl, sym, ap, ◌∙◌, subst, arith}
-use Rattle.std.specs.Prelude.{slice_get, slice_index, is_some, if◌then◌else◌}
-use Rattle.std.proofs.lemmas.Bool.{cases_lt, cases_eq, cases_Bool, eqb-true, eq-eqb, ne_eqb, and_parts}
+use Rattle.std.proofs.Common.{◌≡◌, ◌≢◌, ℕ, zero, suc, [], ◌∷◌, ◌+◌, ◌<◌, ◌≤◌, ◌⊎◌, inl, inr, ⊎_elim, ◌==◌, Bool, true, length, List, Option, Some, None, set, refl, sym, ap, ◌∙◌, subst, arith}
+use Rattle.std.specs.Prelude.{slice_get, slice_index, if◌then◌else◌}
+use Rattle.std.proofs.lemmas.Bool.{cases_lt, cases_eq, eqb-true, eq-eqb, ne_eqb, and_parts}
 use mathlib.Core.Option.{some, some-injective, some-ne-none}
-use mathlib.Core.Logic.{dite}
 use lib.ListN.{get_elem?}
-use Rattle.atomic_table.proofs.Lists.{at_set, set_else, set_here, at_index}
+use Rattle.atomic_table.proofs.Lists.{at_set, set_else}
 use Rattle.pg_num.specs.declared.layout.TheConstants.{MEMORY_BYTES}
 use Rattle.pg_num.specs.declared.limits.TheConstants.{THREAD_LIMIT}
-use Rattle.pg_law_threads.specs.Effects.{deeds, or_old}
+use Rattle.pg_law_threads.specs.Effects.{deeds}
 use Rattle.pg_law_threads.specs.Intervals.{Timed, turns_done}
 use Rattle.pg_law_threads.specs.Standing.{Stands, done_of, left_by}
 use Rattle.pg_law_threads.proofs.StepsAtCuts.{turn_of}
 use Rattle.pg_law_runs.specs.Deeds.{Did}
-use Rattle.pg_words.specs.declared.layout.TheConstants.{TURN_WORD, WORD_COUNT}
+use Rattle.pg_words.specs.declared.layout.TheConstants.{TURN_WORD}
 use Rattle.pg_seats.specs.declared.run.Run.{Run}
 use Rattle.pg_seats.specs.declared.run.Standing.{Standing}
 use Rattle.pg_seats.specs.declared.run.View.{View}

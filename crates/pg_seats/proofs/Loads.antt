@@ -1,31 +1,29 @@
 -- Loads keep the rule, and find what the run has.
-use Rattle.std.proofs.Common.{◌≡◌, ℕ, zero, suc, ◌+◌, ◌<◌, ◌≤◌, ◌⊎◌, inl, inr, ◌&&◌, not, Bool, true, false, Option, Some, None, List, set, refl, sym, ap, ◌∙◌, subst, arith}
+use Rattle.std.proofs.Common.{◌≡◌, ℕ, suc, ◌+◌, ◌<◌, ◌≤◌, ◌⊎◌, inl, inr, ◌&&◌, true, false, Option, Some, None, set, refl, sym, ap, ◌∙◌, subst, arith}
 use Rattle.std.specs.Prelude.{slice_get, slice_index, is_some}
 use Rattle.std.proofs.lemmas.Bool.{cases_lt, and_parts, false_from_ne_true}
 use mathlib.Core.Option.{some}
 use lib.ListN.{get_elem?}
-use Rattle.atomic_table.specs.Table.{State, Me, Allows, keeps, step}
+use Rattle.atomic_table.specs.Table.{State, keeps}
 use Rattle.atomic_table.proofs.Lists.{set_again}
 use Rattle.pg_num.specs.Places.{ByteRange, IsPlace}
 use Rattle.pg_num.specs.declared.layout.TheConstants.{MEMORY_BYTES}
-use Rattle.pg_num.specs.declared.limits.TheConstants.{THREAD_LIMIT}
 use Rattle.pg_law_threads.specs.Effects.{deeds, or_old}
 use Rattle.pg_law_threads.specs.Intervals.{Timed}
 use Rattle.pg_run_trace.specs.Steps.{access_of}
 use Rattle.pg_law_runs.specs.Deeds.{Did}
-use Rattle.pg_words.specs.Calls.{AllowsLoad, NoSlot, granule_word, number_at, thread_word}
+use Rattle.pg_words.specs.Calls.{AllowsLoad, NoSlot, granule_word, number_at}
 use Rattle.pg_words.specs.declared.layout.TheConstants.{TURN_WORD}
-use Rattle.pg_seats.specs.declared.run.Run.{Run}
 use Rattle.pg_seats.specs.declared.run.Standing.{Standing}
 use Rattle.pg_seats.specs.declared.run.View.{View}
 use Rattle.pg_seats.specs.declared.run.View.TheVariants.{Idle, Laying, Pool, Worker, Note, Spent}
-use Rattle.pg_seats.specs.Views.{is_due, is_plain, is_put, looked, may_load, may_look, may_read, next_of, number_there, reads_at, went_on}
+use Rattle.pg_seats.specs.Views.{is_due, is_plain, is_put, looked, may_load, may_look, may_read, number_there, reads_at, went_on}
 use Rattle.pg_seats.specs.Rule.{cell_in, Holds, Keeps}
 use Rattle.pg_seats.specs.Plays.{Loads, Looks, Place, Reads}
 use Rattle.pg_seats.proofs.Ranges.{At, Next, next_that, not_true, number_found, one_range, read_at, running, touched_read, written_none}
 use Rattle.pg_seats.proofs.Cells.{set_same}
 use Rattle.pg_seats.proofs.Changes.{next_is, seat}
-use Rattle.pg_seats.proofs.Moves.{event, knows, no_parts, number, went}
+use Rattle.pg_seats.proofs.Moves.{knows, no_parts, number, went}
 use Rattle.pg_seats.proofs.NextSteps as steps
 use Rattle.pg_seats.proofs.Parts.{none_put, not_put}
 use Rattle.pg_seats.proofs.RunFacts as runs

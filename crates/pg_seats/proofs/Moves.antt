@@ -1,27 +1,27 @@
 -- The steps of a seat: what it finds, and the changes of the rule that its plain steps, parts, advances and looks are.
-use Rattle.std.proofs.Common.{◌≡◌, ◌≢◌, ℕ, zero, suc, [], ◌∷◌, ◌+◌, ◌<◌, ◌≤◌, ◌⊎◌, inl, inr, ◌==◌, ◌||◌, ◌&&◌, max, Bool, true, false, length, List, Option, Some, None, set, refl, sym, ap, ◌∙◌, subst, arith, length-set, get_or-set_same}
+use Rattle.std.proofs.Common.{◌≡◌, ℕ, suc, ◌+◌, ◌<◌, ◌≤◌, ◌⊎◌, inl, inr, ◌||◌, Bool, true, false, length, List, Option, Some, None, set, refl, sym, ap, ◌∙◌, subst, arith, length-set, get_or-set_same}
 use Rattle.std.specs.Prelude.{slice_get, slice_index, is_some, if◌then◌else◌}
-use Rattle.std.proofs.lemmas.Bool.{cases_lt, cases_eq, cases_Bool, eqb-true, false_from_ne_true}
+use Rattle.std.proofs.lemmas.Bool.{cases_lt, cases_eq, false_from_ne_true}
 use mathlib.Core.Option.{some}
 use lib.ListN.{get_elem?}
 use Rattle.pg_num.specs.declared.layout.TheConstants.{MEMORY_BYTES}
 use Rattle.pg_num.specs.declared.limits.TheConstants.{THREAD_LIMIT}
 use Rattle.pg_law_threads.specs.Steps.{touches}
 use Rattle.pg_law_threads.specs.Effects.{deeds, effects, or_old}
-use Rattle.pg_law_threads.specs.Intervals.{Timed, turns_done}
-use Rattle.pg_law_threads.specs.Standing.{Goes, Stands, done_of, left_by}
+use Rattle.pg_law_threads.specs.Intervals.{Timed}
+use Rattle.pg_law_threads.specs.Standing.{Goes, done_of, left_by}
 use Rattle.pg_law_threads.proofs.StepsAtCuts.{goes_plain, goes_turn}
 use Rattle.pg_law_runs.specs.Deeds.{Did}
-use Rattle.pg_words.specs.declared.layout.TheConstants.{TURN_WORD, WORD_COUNT}
+use Rattle.pg_words.specs.declared.layout.TheConstants.{TURN_WORD}
 use Rattle.pg_seats.specs.declared.run.Run.{Run}
 use Rattle.pg_seats.specs.declared.run.Standing.{Standing}
 use Rattle.pg_seats.specs.declared.run.View.{View}
-use Rattle.pg_seats.specs.declared.run.View.TheVariants.{Idle, Laying, Pool, Worker, Note, Spent}
-use Rattle.pg_seats.specs.Plan.{IsEnforced, before, cells_there, first_of, own_of, plan_of, turns_in}
+use Rattle.pg_seats.specs.declared.run.View.TheVariants.{Worker}
+use Rattle.pg_seats.specs.Plan.{before, cells_there, first_of, own_of, plan_of, turns_in}
 use Rattle.pg_seats.specs.Views.{advanced, has_word, is_due, is_put, looked, needed, needs, next_of, told, went_on, with_part}
 use Rattle.pg_seats.specs.Rule.{cell_in, IsSeated, Keeps, over, over_turn}
 use Rattle.pg_seats.proofs.Cells.{turn_cells}
-use Rattle.pg_seats.proofs.Changes.{Change, Due, due_next, moved, one_due, owner_is, put_at, put_else, put_here, seat, some_same, under_way}
+use Rattle.pg_seats.proofs.Changes.{Due, due_next, moved, one_due, owner_is, put_at, put_else, put_here, seat, some_same, under_way}
 use Rattle.pg_seats.proofs.NextSteps as steps
 use Rattle.pg_seats.proofs.Parts.{is_part, none_put, not_put, over_all, over_more, over_none, over_still, turn_none, turn_same}
 use Rattle.pg_seats.proofs.RunFacts as runs

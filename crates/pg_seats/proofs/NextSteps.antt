@@ -1,21 +1,22 @@
 -- The next steps of two threads at a cut of a plan: what each finds, and that they meet at no cell where one is the next turn.
-use Rattle.std.proofs.Common.{◌≡◌, ◌≢◌, ℕ, zero, suc, ◌==◌, ◌≤◌, ◌⊎◌, ◌||◌, ◌&&◌, Bool, true, false, cond, List, [], ◌∷◌, ◌++◌, Some, None, refl, sym, ap, ◌∙◌, subst, inl, inr}
-use Rattle.std.specs.Prelude.{slice_get, is_some, if◌then◌else◌}
-use Rattle.std.specs.List.{AllByRecursion as AllOf, filter}
-use Rattle.std.proofs.lemmas.Bool.{eqb-true, eq-eqb, ne_eqb, false_from_ne_true}
+use Rattle.std.proofs.Common.{◌≡◌, ◌≢◌, ℕ, zero, suc, ◌==◌, ◌≤◌, ◌⊎◌, ◌||◌, ◌&&◌, Bool, true, false, cond, List, [], ◌∷◌, ◌++◌, Some, refl, sym, ap, ◌∙◌, subst, inl, inr}
+use Rattle.std.specs.Prelude.{slice_get, is_some}
+use Rattle.std.specs.List.{AllByRecursion as AllOf}
+use Rattle.std.proofs.lemmas.Bool.{eqb-true, eq-eqb, false_from_ne_true}
 use Rattle.pg_law_threads.specs.Steps.{Conflict, touches, meet_at}
 use Rattle.pg_law_threads.specs.Intervals.{Timed, times, did_of}
 use Rattle.pg_law_threads.specs.Cuts.{Mark, pending, kept, whole, IsCut, IsBelow, count_done}
-use Rattle.pg_law_threads.specs.Effects.{State, Deed, deeds, effects}
+use Rattle.pg_law_threads.specs.Effects.{deeds, effects}
 use Rattle.pg_law_threads.specs.Plans.{IsPlan}
 use Rattle.pg_law_threads.specs.Standing.{own, Stands, done_of, left_by}
-use Rattle.pg_law_threads.proofs.DoneLists.{First, find, cut_at, whole_append, did_append, all_map, both_of, cons_head, cons_tail}
+use Rattle.pg_law_threads.proofs.DoneLists.{First, find, cut_at, all_map, both_of, cons_head, cons_tail}
 use Rattle.pg_law_threads.proofs.TimedSteps.{did_times}
 use Rattle.pg_law_threads.proofs.NextSteps as cuts
 use Rattle.pg_law_threads.proofs.EffectsOfSteps.{cell_part}
 use Rattle.pg_law_threads.proofs.StatesAtCuts as places
 use Rattle.pg_law_threads.proofs.StepsAtCuts.{at_count, at_end, turn_of}
-use Rattle.pg_seats.specs.Plan.{before}
+use Rattle.pg_law_runs.specs.Deeds.{Did, Seen}
+use Rattle.pg_law_course.specs.Course.{before}
 
 some_same : {A : Type 0} (x y : A) → Some x ≡ Some y → x ≡ y
 some_same x y e = cc
@@ -28,14 +29,14 @@ two_places P Q [] a ys (u ∷ us) b vs e p q = inr (inl (subst Q (sym (cons_head
 two_places P Q (x ∷ xs) a ys [] b vs e p q = inl (subst P (cons_head e) p.0)
 two_places P Q (x ∷ xs) a ys (u ∷ us) b vs e p q = two_places P Q xs a ys us b vs (cons_tail e) p.1 q.1
 
-module _ {L B Y E : Type 0} (u : ℕ) where
+module _ (u : ℕ) where
   -- what stands before the first step of thread u that isn't done is what stands before the step of that number
-  before_first : (ms : List (Mark (Timed (Deed L B Y E)))) (p : Timed (Deed L B Y E)) (ns : List (Mark (Timed (Deed L B Y E)))) → p.did.thread ≡ u
+  before_first : (ms : List (Mark (Timed Did))) (p : Timed Did) (ns : List (Mark (Timed Did))) → p.did.thread ≡ u
       → AllOf (λ m. m.done ≡ false → m.step.did.thread ≢ u) ms → AllOf (λ n. n.done ≡ true → n.step.did.thread ≢ u) ns
       → before u (count_done deeds (ms ++ pending p ∷ ns) u) (did_of (whole (ms ++ pending p ∷ ns))) ≡ did_of (whole ms)
   before_first [] p ns e o a = rw (none_of ns a, eq-eqb u p.did.thread (sym e)) refl
     where
-      none_of : (ns : List (Mark (Timed (Deed L B Y E)))) → AllOf (λ n. n.done ≡ true → n.step.did.thread ≢ u) ns → count_done deeds ns u ≡ 0
+      none_of : (ns : List (Mark (Timed Did))) → AllOf (λ n. n.done ≡ true → n.step.did.thread ≢ u) ns → count_done deeds ns u ≡ 0
       none_of [] h = refl
       none_of (n ∷ ns) h = go n.done (u == n.step.did.thread) refl refl (none_of ns h.1)
         where
@@ -45,7 +46,7 @@ module _ {L B Y E : Type 0} (u : ℕ) where
           go false e w v ih = ih
   before_first (m ∷ ms) p ns e o a = go m.done (u == m.step.did.thread) refl refl (before_first ms p ns e o.1 a)
     where
-      ds : List (Deed L B Y E)
+      ds : List Did
       ds = did_of (whole (ms ++ pending p ∷ ns))
 
       n : ℕ
@@ -62,11 +63,11 @@ module _ {L B Y E : Type 0} (u : ℕ) where
       go false true w v ih = absurd (o.0 w (sym (eqb-true u m.step.did.thread v)))
       go false false w v ih = skip n v ∙ ap (λ l. m.step.did ∷ l) ih
 
-module _ {L B Y E : Type 0} (T : List ℕ) (plan : List (Deed L B Y E)) (is_plan : IsPlan deeds T plan) (g : ℕ) (c : Stands T plan g) where
+module _ (T : List ℕ) (plan : List Did) (is_plan : IsPlan deeds T plan) (g : ℕ) (c : Stands T plan g) where
   -- the next step of a thread, with what stands around it
-  pub record Next (u : ℕ) (x : Timed (Deed L B Y E)) : Type 0 where
-    pub before : List (Mark (Timed (Deed L B Y E)))
-    pub after : List (Mark (Timed (Deed L B Y E)))
+  pub record Next (u : ℕ) (x : Timed Did) : Type 0 where
+    pub before : List (Mark (Timed Did))
+    pub after : List (Mark (Timed Did))
     pub parts : c.marks ≡ before ++ pending x ∷ after
     pub thread : x.did.thread ≡ u
     pub earlier : AllOf (λ m. m.done ≡ false → m.step.did.thread ≢ x.did.thread) before
@@ -75,7 +76,7 @@ module _ {L B Y E : Type 0} (T : List ℕ) (plan : List (Deed L B Y E)) (is_plan
     pub cut_is : IsCut deeds (before ++ pending x ∷ after)
     pub below_is : IsBelow g (before ++ pending x ∷ after)
 
-  pub next_at : (u : ℕ) (x : Timed (Deed L B Y E)) → slice_get (own u (times deeds T 0 plan)) (done_of c u) ≡ Some x → Next u x
+  pub next_at : (u : ℕ) (x : Timed Did) → slice_get (own u (times deeds T 0 plan)) (done_of c u) ≡ Some x → Next u x
   next_at u x at = go (find deeds u c.marks)
     where
       there : slice_get (own u (whole c.marks)) (count_done deeds c.marks u) ≡ Some x
@@ -102,7 +103,7 @@ module _ {L B Y E : Type 0} (T : List ℕ) (plan : List (Deed L B Y E)) (is_plan
           same = some_same f.step x
               (sym (subst (λ ms. slice_get (own u (whole ms)) (count_done deeds ms u) ≡ Some f.step) (sym f.parts) (at_count deeds u f.before f.step f.after f.thread f.earlier alone)) ∙ there)
 
-  module _ (u : ℕ) (x : Timed (Deed L B Y E)) (at : slice_get (own u (times deeds T 0 plan)) (done_of c u) ≡ Some x) where
+  module _ (u : ℕ) (x : Timed Did) (at : slice_get (own u (times deeds T 0 plan)) (done_of c u) ≡ Some x) where
     abbrev n : Next u x
     n = next_at u x at
 
@@ -116,7 +117,7 @@ module _ {L B Y E : Type 0} (T : List ℕ) (plan : List (Deed L B Y E)) (is_plan
         ∙ ap (λ ms. before u (count_done deeds ms u) (did_of (whole (n.before ++ pending x ∷ n.after)))) n.parts
         ∙ before_first u n.before x n.after n.thread (all_map (λ m h w e. h w (e ∙ sym n.thread)) n.before n.earlier) n.later
 
-    pub splits : (rest : List (Deed L B Y E)) × (plan ≡ before u (done_of c u) plan ++ x.did ∷ rest)
+    pub splits : (rest : List Did) × (plan ≡ before u (done_of c u) plan ++ x.did ∷ rest)
     splits = (did_of (whole n.after), cuts.split_steps deeds T plan is_plan g n.before n.after x n.whole_is n.cut_is n.below_is n.earlier ∙ ap (λ l. l ++ x.did ∷ did_of (whole n.after)) (sym front))
 
     module _ (due : deeds.is_event x.did ≡ true → x.high ≡ g) where
@@ -127,10 +128,10 @@ module _ {L B Y E : Type 0} (T : List ℕ) (plan : List (Deed L B Y E)) (is_plan
       or_true true = refl
       or_true false = refl
 
-      meet_wt : (a d : Deed L B Y E) (b : ℕ) → deeds.writes a b ≡ true → touches deeds d b ≡ true → meet_at deeds a d b ≡ true
+      meet_wt : (a d : Did) (b : ℕ) → deeds.writes a b ≡ true → touches deeds d b ≡ true → meet_at deeds a d b ≡ true
       meet_wt a d b w t = rw (w, t) refl
 
-      meet_tw : (a d : Deed L B Y E) (b : ℕ) → touches deeds a b ≡ true → deeds.writes d b ≡ true → meet_at deeds a d b ≡ true
+      meet_tw : (a d : Did) (b : ℕ) → touches deeds a b ≡ true → deeds.writes d b ≡ true → meet_at deeds a d b ≡ true
       meet_tw a d b t w =
           let k : (touches deeds a b && deeds.writes d b) ≡ true = rw (t, w) refl in
           ap (λ (c : Bool). (deeds.writes a b && touches deeds d b) || c) k ∙ or_true (deeds.writes a b && touches deeds d b)
@@ -139,7 +140,7 @@ module _ {L B Y E : Type 0} (T : List ℕ) (plan : List (Deed L B Y E)) (is_plan
       open_apart = cuts.open_apart deeds T plan is_plan g n.before n.after x n.whole_is n.cut_is n.below_is n.earlier next
 
       -- a cell that it reads or writes is as the plan has it there
-      pub finds : (z : State L B Y) (b : ℕ) → touches deeds x.did b ≡ true → (left_by z c).cells b ≡ (effects z (before u (done_of c u) plan)).cells b
+      pub finds : (z : Seen) (b : ℕ) → touches deeds x.did b ≡ true → (left_by z c).cells b ≡ (effects z (before u (done_of c u) plan)).cells b
       finds z b t =
           ap (λ ms. (effects z (did_of (kept ms))).cells b) n.parts
           ∙ places.seen z n.before n.after x (cell_part b)
@@ -153,7 +154,7 @@ module _ {L B Y E : Type 0} (T : List ℕ) (plan : List (Deed L B Y E)) (is_plan
           ∙ ap (λ l. (effects z l).cells b) (sym front)
 
   -- the next steps of two threads write no cell that the other touches, where each is plain or the next turn
-  module _ (t u : ℕ) (x y : Timed (Deed L B Y E)) (at : slice_get (own t (times deeds T 0 plan)) (done_of c t) ≡ Some x) (bt : slice_get (own u (times deeds T 0 plan)) (done_of c u) ≡ Some y)
+  module _ (t u : ℕ) (x y : Timed Did) (at : slice_get (own t (times deeds T 0 plan)) (done_of c t) ≡ Some x) (bt : slice_get (own u (times deeds T 0 plan)) (done_of c u) ≡ Some y)
       (due : deeds.is_event x.did ≡ true → x.high ≡ g) (due' : deeds.is_event y.did ≡ true → y.high ≡ g) (threads : t ≢ u) where
     abbrev n' : Next t x
     n' = next_at t x at
@@ -169,4 +170,4 @@ module _ {L B Y E : Type 0} (T : List ℕ) (plan : List (Deed L B Y E)) (is_plan
         go : (false ≡ false → Conflict deeds y.did x.did → ⊥) ⊎ ((false ≡ false → Conflict deeds x.did y.did → ⊥) ⊎ (pending x ≡ pending y)) → ⊥
         go (inl f) = f refl (record { threads = λ e. threads (sym n'.thread ∙ sym e ∙ k'.thread); cell = b; meet = meet_wt t x at due y.did x.did b w h })
         go (inr (inl f)) = f refl (record { threads = λ e. threads (sym n'.thread ∙ e ∙ k'.thread); cell = b; meet = meet_tw t x at due x.did y.did b h w })
-        go (inr (inr e)) = threads (sym n'.thread ∙ ap (λ (m : Mark (Timed (Deed L B Y E))). m.step.did.thread) e ∙ k'.thread)
+        go (inr (inr e)) = threads (sym n'.thread ∙ ap (λ (m : Mark (Timed Did)). m.step.did.thread) e ∙ k'.thread)

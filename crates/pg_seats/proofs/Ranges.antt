@@ -1,14 +1,14 @@
 -- What a seat may do, taken apart: its next step, and how this step accesses a range.
-use Rattle.std.proofs.Common.{◌≡◌, ℕ, zero, suc, [], ◌∷◌, ◌+◌, ◌-◌, ◌/◌, ◌%◌, ◌<◌, ◌≤◌, ◌⊎◌, inl, inr, ◌==◌, ◌||◌, ◌&&◌, not, Bool, true, false, Option, Some, None, List, refl, sym, ap, ◌∙◌, subst, arith}
-use Rattle.std.specs.Prelude.{nat_lt, nat_le, is_some, slice_get, slice_index, if◌then◌else◌, ⊤}
-use Rattle.std.proofs.lemmas.Bool.{cases_lt, eqb-true, lt-ltb, le-leb, le-ltb, and_parts, false_from_ne_true}
-use mathlib.Core.Option.{some, some-injective}
+use Rattle.std.proofs.Common.{◌≡◌, ℕ, ◌+◌, ◌-◌, ◌/◌, ◌%◌, ◌<◌, ◌⊎◌, inl, inr, ◌==◌, ◌||◌, ◌&&◌, not, Bool, true, false, Option, Some, None, List, refl, sym, ap, ◌∙◌, subst, arith}
+use Rattle.std.specs.Prelude.{is_some, slice_get, slice_index, if◌then◌else◌}
+use Rattle.std.proofs.lemmas.Bool.{eqb-true, lt-ltb, le-leb, and_parts}
+use mathlib.Core.Option.{some}
 use lib.ListN.{get_elem?}
 use Rattle.atomic_table.specs.Table.{State}
 use Rattle.pg_num.specs.Places.{ByteRange, IsPlace}
 use Rattle.pg_num.specs.declared.layout.TheConstants.{MEMORY_BYTES}
-use Rattle.pg_num.proofs.Granules.{IsPlace-in_granule, IsPlace-in_memory}
-use Rattle.pg_run_memory.specs.Bytes.{byte_of, number_of}
+use Rattle.pg_num.proofs.Granules.{IsPlace-in_granule}
+use Rattle.pg_run_memory.specs.Bytes.{byte_of}
 use Rattle.pg_run_memory.proofs.Parts.{part_number}
 use Rattle.pg_run_memory.proofs.Places.{same_number}
 use Rattle.pg_law_threads.specs.Steps.{touches}
@@ -23,13 +23,12 @@ use Rattle.pg_words.specs.declared.layout.TheConstants.{GRANULE_WORDS}
 use Rattle.pg_seats.specs.declared.run.Run.{Run}
 use Rattle.pg_seats.specs.declared.run.Standing.{Standing}
 use Rattle.pg_seats.specs.declared.run.View.{View}
-use Rattle.pg_seats.specs.declared.run.View.TheVariants.{Idle, Laying, Pool, Worker, Note, Spent}
+use Rattle.pg_seats.specs.declared.run.View.TheVariants.{Idle, Laying, Worker, Spent}
 use Rattle.pg_seats.specs.Plan.{cells_there, own_of}
 use Rattle.pg_seats.specs.Views.{fits, has_number, is_put, is_range, next_of, number_there, reads_at, writes_at}
-use Rattle.pg_seats.specs.Rule.{cell_in, Holds, Keeps, Lays, Rests}
+use Rattle.pg_seats.specs.Rule.{cell_in, Holds, Keeps}
 use Rattle.pg_seats.proofs.Changes.{fits-some, next_is, same_run}
 use Rattle.pg_seats.proofs.Moves.{finds}
-use Rattle.pg_seats.proofs.Parts.{not_put}
 use Rattle.pg_seats.proofs.StepShapes.{IsShaped, written_by}
 
 -- ---- while a worker has a seat, a run goes on

@@ -1,11 +1,10 @@
 -- What follows of the rule: what a seat finds, and that one is due at most.
-use Rattle.std.proofs.Common.{◌≡◌, ℕ, ◌<◌, Bool, true, false, List, Some, refl, sym, ap, ◌∙◌, subst}
+use Rattle.std.proofs.Common.{◌≡◌, ℕ, true, false, List, Some, sym, ap, ◌∙◌, subst}
 use mathlib.Core.Option.{some}
 use lib.ListN.{get_elem?}
 use Rattle.pg_law_threads.specs.Steps.{touches}
 use Rattle.pg_law_threads.specs.Effects.{deeds}
 use Rattle.pg_law_threads.specs.Intervals.{Timed}
-use Rattle.pg_law_threads.specs.Standing.{done_of}
 use Rattle.pg_law_runs.specs.Deeds.{Did}
 use Rattle.pg_seats.specs.declared.run.Run.{Run}
 use Rattle.pg_seats.specs.declared.run.Standing.{Standing}
@@ -13,7 +12,7 @@ use Rattle.pg_seats.specs.declared.run.View.{View}
 use Rattle.pg_seats.specs.declared.run.View.TheVariants.{Worker}
 use Rattle.pg_seats.specs.Plan.{cells_there}
 use Rattle.pg_seats.specs.Views.{IsCell, is_put, next_of}
-use Rattle.pg_seats.specs.Rule.{cell_in, IsSeated, Keeps}
+use Rattle.pg_seats.specs.Rule.{cell_in, Keeps}
 use Rattle.pg_seats.proofs.Changes.{Due, due_next, next_is, one_due, same_run, seat}
 use Rattle.pg_seats.proofs.Moves.{finds, number}
 

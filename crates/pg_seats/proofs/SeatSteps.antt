@@ -1,8 +1,7 @@
 -- Seats that are split off and joined: those of threads, and notes.
-use Rattle.std.proofs.Common.{◌≡◌, ◌≢◌, ℕ, zero, suc, [], ◌∷◌, ◌++◌, ◌+◌, ◌<◌, ◌≤◌, ◌⊎◌, inl, inr, ⊎_elim, Bool, true, false, length, max, Option, Some, None, List, set, refl, sym, ap, ◌∙◌, subst, arith, length-set}
+use Rattle.std.proofs.Common.{◌≡◌, ◌≢◌, ℕ, zero, suc, [], ◌∷◌, ◌++◌, ◌<◌, ◌≤◌, ◌⊎◌, inl, inr, ⊎_elim, true, false, length, max, List, set, refl, sym, ap, ◌∙◌, subst, arith, length-set}
 use Rattle.std.proofs.Math.Nat.{max-le}
-use Rattle.std.specs.Prelude.{slice_get, slice_index, if◌then◌else◌, ◌==◌}
-use Rattle.std.proofs.lemmas.Bool.{cases_lt, cases_eq}
+use Rattle.std.proofs.lemmas.Bool.{cases_eq}
 use mathlib.Core.Option.{some, some-injective, some-ne-none}
 use lib.ListN.{get_elem?}
 use Rattle.atomic_table.specs.Table.{State, Joins, Splits}
@@ -13,10 +12,10 @@ use Rattle.pg_seats.specs.declared.run.Run.{Run}
 use Rattle.pg_seats.specs.declared.run.Standing.{Standing}
 use Rattle.pg_seats.specs.declared.run.View.{View}
 use Rattle.pg_seats.specs.declared.run.View.TheVariants.{Idle, Laying, Pool, Worker, Note, Spent}
-use Rattle.pg_seats.specs.Views.{may_look, may_split, may_tell, needed, newcomer, next_of, noted, told, with_one_more}
+use Rattle.pg_seats.specs.Views.{may_look, may_split, may_tell, newcomer, noted, told, with_one_more}
 use Rattle.pg_seats.specs.Rule.{Fits, HasSeat, Holds, IsSeated, Keeps, Seats}
 use Rattle.pg_seats.proofs.Ranges.{running}
-use Rattle.pg_seats.proofs.Changes.{in_list, put_at, put_else, put_here, seat}
+use Rattle.pg_seats.proofs.Changes.{put_at, put_else, put_here, seat}
 use Rattle.pg_seats.proofs.Moves.{knows}
 
 at_end : {A : Type 0} (l : List A) (a b : A) (j : ℕ) → get_elem? (l ++ a ∷ []) j ≡ some b → (get_elem? l j ≡ some b) ⊎ ((j ≡ length l) × (a ≡ b))

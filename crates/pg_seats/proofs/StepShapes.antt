@@ -1,7 +1,7 @@
 -- What the deed of a step writes, by what is told of the step.
-use Rattle.std.proofs.Common.{◌≡◌, ℕ, ℤ, ◌+◌, ◌-◌, ◌<◌, ◌≤◌, ◌⊎◌, List, [], ◌∷◌, length, Bool, true, false, Option, Some, None, Ok, Err, refl, sym, ◌∙◌, ap, subst, arith}
-use Rattle.std.specs.Prelude.{◌==◌, ◌&&◌, nat_lt, is_some, slice_get, slice_index, if◌then◌else◌}
-use Rattle.std.specs.List.{AllByRecursion as AllOf, filter}
+use Rattle.std.proofs.Common.{◌≡◌, ℕ, ℤ, ◌-◌, ◌<◌, ◌≤◌, List, [], ◌∷◌, length, Bool, true, false, Option, Some, None, Ok, Err, refl, sym, ◌∙◌, ap, subst, arith}
+use Rattle.std.specs.Prelude.{◌==◌, ◌&&◌, nat_lt, is_some, slice_get, if◌then◌else◌}
+use Rattle.std.specs.List.{AllByRecursion as AllOf}
 use Rattle.std.proofs.lemmas.Bool.{eqb-true}
 use Rattle.std.proofs.lemmas.Bool.Decides.{nat_tests}
 use Rattle.pg_num.specs.declared.layout.TheConstants.{MEMORY_BYTES}
@@ -10,20 +10,19 @@ use Rattle.pg_ir.specs.declared.request.Request.{Request}
 use Rattle.pg_ir.specs.declared.request.Request.TheVariants as requests
 use Rattle.pg_ir.specs.Program.{NumberedProgram}
 use Rattle.pg_run_memory.specs.Bytes.{byte_of}
-use Rattle.pg_law_threads.specs.Effects.{deeds}
 use Rattle.pg_run_thread.specs.declared.action.Action.{Action}
 use Rattle.pg_run_thread.specs.declared.action.Action.TheVariants as actions
-use Rattle.pg_run_thread.specs.LocalState.{LocalState, fresh}
+use Rattle.pg_run_thread.specs.LocalState.{fresh}
 use Rattle.pg_run_trace.specs.declared.step.Access.{Access}
 use Rattle.pg_run_trace.specs.declared.step.Step.{Step}
 use Rattle.pg_run_trace.specs.Kinds.{kind_of}
-use Rattle.pg_run_trace.specs.Races.{is_in, reads_in, writes_in}
+use Rattle.pg_run_trace.specs.Races.{is_in}
 use Rattle.pg_run_trace.specs.Steps.{access_of, range_of}
 use Rattle.pg_run.specs.Locality.{IfDid}
 use Rattle.pg_run.specs.State.{State, next_of}
 use Rattle.pg_run.specs.MachineStep.{Answered, Stepped, answered, kind_told, number_in, operands_in, settled, step, taken}
 use Rattle.pg_run.specs.Runs.{IsRun, Takes}
-use Rattle.pg_law_effects.specs.Effect.{Effect, MadeThread, RequestEffect, effect, effect_of, request_effect}
+use Rattle.pg_law_effects.specs.Effect.{Effect, effect, effect_of, request_effect}
 use Rattle.pg_law_effects.specs.Meets.{byte_in, byte_written}
 use Rattle.pg_law_effects.specs.PermittedSteps.{one_more}
 use Rattle.pg_law_effects.specs.Told.{TellsAccess, TellsAs}

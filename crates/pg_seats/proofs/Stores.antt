@@ -1,27 +1,23 @@
 -- Stores keep the rule: plain ones, and the stores of turns that are due; of a granule whole, and of a part of it.
-use Rattle.std.proofs.Common.{◌≡◌, ◌≢◌, ℕ, zero, suc, ◌+◌, ◌-◌, ◌*◌, ◌/◌, ◌%◌, ◌^◌, ◌<◌, ◌≤◌, ◌⊎◌, inl, inr, ◌==◌, ◌&&◌, not, Bool, true, false, length, Option, Some, None, List, set, refl, sym, ap, ◌∙◌, subst, arith, length-set}
-use Rattle.std.specs.Prelude.{slice_get, slice_index, is_some, nat_lt, nat_le, if◌then◌else◌}
-use Rattle.std.proofs.lemmas.Bool.{cases_lt, cases_eq, and_parts, eqb-true, eq-eqb, ne_eqb, lt-ltb, le-leb, le-ltb, false_from_ne_true}
+use Rattle.std.proofs.Common.{◌≡◌, ℕ, ◌+◌, ◌-◌, ◌%◌, ◌^◌, ◌<◌, ◌≤◌, ◌⊎◌, inl, inr, ◌==◌, ◌&&◌, true, false, Option, Some, None, List, set, refl, sym, ap, ◌∙◌, subst, arith, length-set}
+use Rattle.std.specs.Prelude.{slice_get, slice_index, is_some, nat_lt, if◌then◌else◌}
+use Rattle.std.proofs.lemmas.Bool.{cases_lt, and_parts, eqb-true, eq-eqb, ne_eqb, lt-ltb, le-leb, le-ltb, false_from_ne_true}
 use mathlib.Core.Option.{some}
 use lib.ListN.{get_elem?}
-use Rattle.atomic_table.specs.Table.{State, Me, keeps}
+use Rattle.atomic_table.specs.Table.{State, keeps}
 use Rattle.pg_num.specs.Places.{ByteRange, IsPlace}
 use Rattle.pg_num.specs.declared.layout.TheConstants.{MEMORY_BYTES}
 use Rattle.pg_num.specs.declared.limits.TheConstants.{THREAD_LIMIT}
 use Rattle.pg_num.proofs.Granules.{IsPlace-in_granule, IsPlace-in_memory}
 use Rattle.pg_run_memory.specs.declared.delta.Delta.{Delta}
-use Rattle.pg_run_memory.specs.Bytes.{byte_of, number_of, with_bytes}
+use Rattle.pg_run_memory.specs.Bytes.{byte_of, with_bytes}
 use Rattle.pg_run_memory.specs.Words.{changed_by}
 use Rattle.pg_run_memory.proofs.Parts.{part_number}
-use Rattle.pg_law_threads.specs.Steps.{touches}
 use Rattle.pg_law_threads.specs.Effects.{deeds, or_old}
 use Rattle.pg_law_threads.specs.Intervals.{Timed}
-use Rattle.pg_run_trace.specs.Races.{is_in}
 use Rattle.pg_run_trace.specs.Steps.{access_of}
 use Rattle.pg_law_runs.specs.Deeds.{Did}
 use Rattle.pg_words.specs.Calls.{AllowsChange, AllowsLoad, AllowsPart, AllowsStore, Changes, NoSlot, granule_word, number_at}
-use Rattle.pg_words.specs.declared.layout.TheConstants.{TURN_WORD, WORD_COUNT}
-use Rattle.pg_seats.specs.declared.run.Run.{Run}
 use Rattle.pg_seats.specs.declared.run.Standing.{Standing}
 use Rattle.pg_seats.specs.declared.run.View.{View}
 use Rattle.pg_seats.specs.declared.run.View.TheVariants.{Idle, Laying, Pool, Worker, Note, Spent}
@@ -32,7 +28,7 @@ use Rattle.pg_seats.specs.Plays.{Finds, Place, Puts, Stores}
 use Rattle.pg_seats.proofs.Ranges.{At, Next, next_that, not_true, number_found, one_range, running, touched_write, write_at, written_is}
 use Rattle.pg_seats.proofs.Cells.{granule_behind, granule_byte, granule_clock}
 use Rattle.pg_seats.proofs.Loads.{kept_all, none_of}
-use Rattle.pg_seats.proofs.Moves.{event, no_parts, number, put_more, went}
+use Rattle.pg_seats.proofs.Moves.{no_parts, number, put_more, went}
 use Rattle.pg_seats.proofs.Parts.{is_part, none_put}
 use Rattle.pg_seats.proofs.RunFacts as runs
 use Rattle.pg_seats.proofs.StepShapes.{IsShaped}

@@ -1,20 +1,16 @@
 -- The words of threads and the end of a turn: the parts of a turn that are no store keep the rule.
-use Rattle.std.proofs.Common.{◌≡◌, ◌≢◌, ℕ, zero, suc, ◌+◌, ◌-◌, ◌%◌, ◌^◌, ◌<◌, ◌≤◌, ◌⊎◌, inl, inr, ◌==◌, ◌||◌, ◌&&◌, Bool, true, false, length, Option, Some, None, List, set, refl, sym, ap, ◌∙◌, subst, arith, length-set, mod-eq_of_lt}
-use Rattle.std.specs.Prelude.{slice_get, slice_index, is_some, nat_lt, if◌then◌else◌}
+use Rattle.std.proofs.Common.{◌≡◌, ℕ, suc, ◌+◌, ◌-◌, ◌%◌, ◌^◌, ◌<◌, ◌≤◌, ◌⊎◌, inl, inr, ◌==◌, ◌||◌, ◌&&◌, true, false, Option, Some, None, List, set, refl, sym, ap, ◌∙◌, subst, arith, length-set, mod-eq_of_lt}
+use Rattle.std.specs.Prelude.{slice_index, is_some, if◌then◌else◌}
 use Rattle.std.proofs.lemmas.Bool.{cases_lt, cases_eq, and_parts, eqb-true, eq-eqb, ne_eqb, lt-ltb, le-ltb, false_from_ne_true}
 use mathlib.Core.Option.{some}
 use lib.ListN.{get_elem?}
-use Rattle.atomic_table.specs.Table.{State, Me, keeps}
+use Rattle.atomic_table.specs.Table.{keeps}
 use Rattle.pg_num.specs.declared.layout.TheConstants.{MEMORY_BYTES}
 use Rattle.pg_num.specs.declared.limits.TheConstants.{THREAD_LIMIT}
 use Rattle.pg_run_memory.specs.declared.delta.Delta.TheVariants.{Add}
-use Rattle.pg_law_threads.specs.Steps.{touches}
-use Rattle.pg_law_threads.specs.Effects.{deeds, or_old}
-use Rattle.pg_law_threads.specs.Intervals.{Timed}
-use Rattle.pg_law_runs.specs.Deeds.{Did}
-use Rattle.pg_words.specs.Calls.{AllowsChange, AllowsLoad, AllowsStore, NoSlot, thread_word}
-use Rattle.pg_words.specs.declared.layout.TheConstants.{THREAD_WORDS, TURN_WORD, WORD_COUNT}
-use Rattle.pg_seats.specs.declared.run.Run.{Run}
+use Rattle.pg_law_threads.specs.Effects.{or_old}
+use Rattle.pg_words.specs.Calls.{AllowsChange, AllowsLoad, AllowsStore, thread_word}
+use Rattle.pg_words.specs.declared.layout.TheConstants.{THREAD_WORDS, TURN_WORD}
 use Rattle.pg_seats.specs.declared.run.Standing.{Standing}
 use Rattle.pg_seats.specs.declared.run.View.{View}
 use Rattle.pg_seats.specs.declared.run.View.TheVariants.{Idle, Laying, Pool, Worker, Note, Spent}
@@ -24,7 +20,7 @@ use Rattle.pg_seats.specs.Plays.{Advances, Hears, Place, Puts}
 use Rattle.pg_seats.proofs.Ranges.{Next, next_that, running}
 use Rattle.pg_seats.proofs.Cells.{word_byte, word_clock, word_here, word_other}
 use Rattle.pg_seats.proofs.Changes.{due_next, owner_is, seat}
-use Rattle.pg_seats.proofs.Loads.{kept_all, none_of}
+use Rattle.pg_seats.proofs.Loads.{kept_all}
 use Rattle.pg_seats.proofs.Moves.{closed, finds, number, put_more}
 use Rattle.pg_seats.proofs.Parts.{is_part, none_put}
 use Rattle.pg_seats.proofs.RunFacts as runs

@@ -5,7 +5,7 @@ use Rattle.pg_num.specs.declared.layout.TheConstants.{MEMORY_BYTES}
 use Rattle.pg_num.specs.declared.limits.TheConstants.{THREAD_LIMIT}
 use Rattle.pg_run_memory.specs.Bytes.{byte_of, number_of}
 use Rattle.pg_run_memory.specs.Initial.{initial_byte}
-use Rattle.pg_law_threads.specs.Effects.{deeds, or_old}
+use Rattle.pg_law_threads.specs.Effects.{deeds}
 use Rattle.pg_law_threads.specs.Intervals.{Timed}
 use Rattle.pg_run_trace.specs.declared.step.Access.{Access}
 use Rattle.pg_run_trace.specs.declared.step.StepKind.{StepKind}
@@ -14,7 +14,6 @@ use Rattle.pg_run_trace.specs.declared.turn.TurnKind.{TurnKind}
 use Rattle.pg_run_trace.specs.declared.turn.TurnKind.TheVariants as turns
 use Rattle.pg_run_trace.specs.Steps.{access_of, range_of}
 use Rattle.pg_law_runs.specs.Deeds.{Did}
-use Rattle.pg_seats.specs.declared.run.Run.{Run}
 use Rattle.pg_seats.specs.declared.run.Standing.{Standing}
 use Rattle.pg_seats.specs.declared.run.View.{View}
 use Rattle.pg_seats.specs.declared.run.View.TheVariants.{Idle, Laying, Pool, Worker, Note, Spent}
