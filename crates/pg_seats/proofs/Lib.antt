@@ -1,0 +1,14 @@
+pub mod NextSteps
+pub mod StepShapes
+pub mod RunFacts
+pub mod Cells
+pub mod Parts
+pub mod Changes
+pub mod Moves
+pub mod Ranges
+pub mod Loads
+pub mod Stores
+pub mod TurnParts
+pub mod SeatSteps
+pub mod Begins
+pub mod SeatLaws
