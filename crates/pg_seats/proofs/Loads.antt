@@ -132,7 +132,10 @@ looks id (Worker w, l) e = λ s holds len at small.
       (
         refl,
         (let m = k.seen in omega (arith, n, m)),
-        (λ x f v. (let a = steps.ahead (Rattle.pg_seats.specs.Plan.turns_in w.run) (Rattle.pg_seats.specs.Plan.plan_of w.run) (runs.plan w.run h.run_is) h.turns h.stands w.thread x
-            (subst (λ m. slice_get (Rattle.pg_seats.specs.Plan.own_of w.run w.thread) m ≡ Some x) k.done_is (next_is w x f)) in omega (arith, n, a))),
+        (
+          (let m = h.bound in omega (arith, n, m)),
+          (λ x f v. (let a = steps.ahead (Rattle.pg_seats.specs.Plan.turns_in w.run) (Rattle.pg_seats.specs.Plan.plan_of w.run) (runs.plan w.run h.run_is) h.turns h.stands w.thread x
+              (subst (λ m. slice_get (Rattle.pg_seats.specs.Plan.own_of w.run w.thread) m ≡ Some x) k.done_is (next_is w x f)) in omega (arith, n, a))),
+        ),
       ),
     )

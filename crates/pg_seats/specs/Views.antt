@@ -6,7 +6,7 @@ use Rattle.pg_num.specs.declared.limits.TheConstants.{THREAD_LIMIT}
 use Rattle.pg_run_memory.specs.Bytes.{byte_of, number_of}
 use Rattle.pg_run_memory.specs.Initial.{initial_byte}
 use Rattle.pg_law_threads.specs.Effects.{deeds}
-use Rattle.pg_law_threads.specs.Intervals.{Timed}
+use Rattle.pg_law_threads.specs.Intervals.{Timed, turns_done}
 use Rattle.pg_run_trace.specs.declared.step.Access.{Access}
 use Rattle.pg_run_trace.specs.declared.step.StepKind.{StepKind}
 use Rattle.pg_run_trace.specs.declared.step.StepKind.TheVariants as kinds
@@ -17,7 +17,7 @@ use Rattle.pg_law_runs.specs.Deeds.{Did}
 use Rattle.pg_seats.specs.declared.run.Standing.{Standing}
 use Rattle.pg_seats.specs.declared.run.View.{View}
 use Rattle.pg_seats.specs.declared.run.View.TheVariants.{Idle, Laying, Pool, Worker, Note, Spent}
-use Rattle.pg_seats.specs.Plan.{cells_there, own_of}
+use Rattle.pg_seats.specs.Plan.{cells_there, own_of, plan_of}
 
 -- ---- the next shared step
 
@@ -211,9 +211,9 @@ abbrev pub seen_of : View → ℕ
 seen_of (Worker w) = w.seen
 seen_of v = 0
 
--- where its next step is a turn, no more turns than those before it are done
+-- no more turns are done than the run has, and where its next step is a turn, no more than those before it
 abbrev pub IsAhead : View → ℕ → Type 0
-IsAhead (Worker w) n = (x : Timed Did) → next_of w ≡ Some x → deeds.is_event x.did ≡ true → n ≤ x.high
+IsAhead (Worker w) n = (n ≤ turns_done deeds 0 (plan_of w.run)) × ((x : Timed Did) → next_of w ≡ Some x → deeds.is_event x.did ≡ true → n ≤ x.high)
 IsAhead v n = ⊤
 
 -- its next step is the turn of this number, and it knew of no more turns

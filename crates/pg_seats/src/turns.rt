@@ -7,7 +7,8 @@ ghost use Rattle.pg_seats.specs.Views.{IsAhead, IsNow, advanced, looked, may_adv
 use crate::rule::{Advances, Hears, Looks, Place, Puts, RunWords};
 use pg_ir::ThreadNo;
 
-/// The number of turns that are done: no less than the seat knew of, and no more than those before the thread's next turn.
+/// The number of turns that are done: no less than the seat knew of, no more than the run has, and no more than those before the
+/// thread's next turn.
 #[tactic(auto, using(crate::proofs::Loads::looks))]
 pub fn look(words: &RunWords, seat: &mut Place) -> u64
     requires own { seat.old.table_id ≡ words.now.table.shared.table_id }

@@ -1,0 +1,3 @@
+mod NextSteps
+mod PlainSteps
+mod DueTurns
