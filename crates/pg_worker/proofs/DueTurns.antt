@@ -26,7 +26,7 @@ use Rattle.pg_law_course.proofs.CoursePlaces.{count_more}
 use Rattle.pg_law_course.proofs.CourseSteps.{turn_high}
 use Rattle.pg_law_course.proofs.OutputByTurns.{more_numbers}
 use Rattle.pg_law_course.proofs.RestingThreads.{rests_at}
-use Rattle.pg_law_course.proofs.SharedPlaces.{shared_end, shared_event, turns_filter}
+use Rattle.pg_law_course.proofs.SharedPlaces.{shared_end, turns_filter}
 use Rattle.pg_seats.specs.declared.run.Run.{Run}
 use Rattle.pg_seats.specs.declared.run.Standing.{Standing}
 use Rattle.pg_seats.specs.declared.run.View.{View}
@@ -71,7 +71,10 @@ event_shared gated id actions.Local e = absurd cc
 event_shared gated id (actions.In i) e = absurd cc
 event_shared gated id actions.InLen e = absurd cc
 
-some_number : (a b : ℕ) → Some a ≡ Some b → a ≡ b
+pub shared_event : (d : Did) → deeds.is_event d ≡ true → is_shared d ≡ true
+shared_event d e = rw e refl
+
+pub some_number : (a b : ℕ) → Some a ≡ Some b → a ≡ b
 some_number a b e = cc
 
 -- as many turns are in the plan as in the run
@@ -115,11 +118,11 @@ module _ (r : Run) (table : TableId) (a : Worker) (at : IsAt r table 0 a) (few :
       }
     where
       early_by : (f g h : ℕ) → h ≡ g → f ≤ h → (f ≡ g → ⊥) → f < g
-      early_by f g h e m no = go (cases_lt f g)
+      early_by f g h e m apart = go (cases_lt f g)
         where
           go : (f < g) ⊎ (g ≤ f) → f < g
           go (inl lt) = lt
-          go (inr le) = absurd (no (omega (arith, e, m, le)))
+          go (inr le) = absurd (apart (omega (arith, e, m, le)))
 
   at_rest : at.taken ≡ length (course r.program r.input r.schedule a.thread.0) → Tells at.standing g found
   at_rest e =
@@ -152,7 +155,7 @@ module _ (r : Run) (table : TableId) (a : Worker) (at : IsAt r table 0 a) (few :
       go (inl lt) = at_turn (at_step r at.enforced a.thread.0 at.taken a.fiber at.local lt)
       go (inr le) = at_rest (let i = inside r.program r.input r.schedule a.thread.0 at.taken a.fiber at.local in omega (arith, i, le))
 
-same_next : (w : Standing) (due : Bool) (parts seen looks : ℕ) → next_of (record { run = w.run; thread = w.thread; done = w.done; due = due; parts = parts; seen = seen; looks = looks }) ≡ next_of w
+pub same_next : (w : Standing) (due : Bool) (parts seen looks : ℕ) → next_of (record { run = w.run; thread = w.thread; done = w.done; due = due; parts = parts; seen = seen; looks = looks }) ≡ next_of w
 unfolding next_of
 same_next w due parts seen looks = refl
 
@@ -160,7 +163,7 @@ same_next w due parts seen looks = refl
 module _ (r : Run) (table : TableId) (a b : Worker) (at : IsAt r table 0 a) (few : 0 < a.left) (g : ℕ) (left : next_turn_of a ≡ Some g) (waits : waits_there r a.fiber ≡ true)
     (found : ℕ) (same : b ≡ record a { seat = b.seat }) (own : b.seat.table_id ≡ a.seat.table_id) (view : b.seat.me ≡ (looked a.seat.me.0 found, a.seat.me.1))
     (low : seen_of a.seat.me.0 ≤ found) (ahead : IsAhead a.seat.me.0 found) where
-  standing : Standing
+  abbrev standing : Standing
   standing = record { run = at.standing.run; thread = at.standing.thread; done = at.standing.done; due = is_due at.standing found; parts = at.standing.parts; seen = found; looks = suc at.standing.looks }
 
   view_is : b.seat.me ≡ (views.Worker standing, [])
@@ -222,17 +225,14 @@ module _ (r : Run) (table : TableId) (a b : Worker) (at : IsAt r table 0 a) (few
 
 -- ---- the end of a turn
 
+few_one : (o : Option ℕ) (m : ℕ) → length (cons_option o []) ≤ suc m
+few_one None m = omega arith
+few_one (Some n) m = omega arith
+
 few_numbers : (o : Option ℕ) (xs : List ℕ) (m : ℕ) → length xs ≤ m → length (xs ++ cons_option o []) ≤ suc m
-few_numbers o [] m h = one o
-  where
-    one : (o : Option ℕ) → length (cons_option o []) ≤ suc m
-    one None = omega arith
-    one (Some n) = omega arith
-few_numbers o (x ∷ xs) m h = more m h
-  where
-    more : (m : ℕ) → suc (length xs) ≤ m → suc (length (xs ++ cons_option o [])) ≤ suc m
-    more zero k = absurd (omega (arith, k))
-    more (suc m) k = (let i = few_numbers o xs m (omega (arith, k)) in omega (arith, i))
+few_numbers o [] m h = few_one o m
+few_numbers o (x ∷ xs) zero h = absurd (omega (arith, h))
+few_numbers o (x ∷ xs) (suc m) h = let i = few_numbers o xs m (omega (arith, h)) in omega (arith, i)
 
 fits_some : (f : Timed Did → Bool) (o : Option (Timed Did)) → fits f o ≡ true → (x : Timed Did) × ((o ≡ Some x) × (f x ≡ true))
 fits_some f None e = absurd cc
@@ -281,7 +281,7 @@ module _ (r : Run) (table : TableId) (parts : ℕ) (a : Worker) (at : IsAt r tab
       (done : m.done ≡ suc a.done) (steps : m.left ≡ a.left) (prints : m.prints.items ≡ a.prints.items ++ cons_option (number_printed (next r.program a.fiber)) [])
       (room : vec_capacity a.prints ≤ vec_capacity m.prints) (own : m.seat.table_id ≡ a.seat.table_id) (n : ℕ) (view : m.seat.me ≡ (advanced a.seat.me.0 n, a.seat.me.1))
       (now : IsNow a.seat.me.0 n) (h : IsResumed r.program answer m b) (seat : b.seat ≡ m.seat) where
-    behind_it : Standing
+    abbrev behind_it : Standing
     behind_it = record { run = at.standing.run; thread = at.standing.thread; done = suc at.standing.done; due = false; parts = 0; seen = suc n; looks = at.standing.looks }
 
     now_standing : IsNow (views.Worker at.standing) n
@@ -290,8 +290,8 @@ module _ (r : Run) (table : TableId) (parts : ℕ) (a : Worker) (at : IsAt r tab
     thread_is : a.thread.0 ≡ b.thread.0
     thread_is = ap (λ u. u.0) (sym (h.thread ∙ thread))
 
-    view_is : b.seat.me ≡ (views.Worker behind_it, [])
-    view_is = ap (λ s. s.me) seat ∙ view ∙ ap (λ v. (advanced v.0 n, v.1)) at.view
+    ended_view : b.seat.me ≡ (views.Worker behind_it, [])
+    ended_view = ap (λ s. s.me) seat ∙ view ∙ ap (λ v. (advanced v.0 n, v.1)) at.view
 
     turns_are : b.turns.items ≡ a.turns.items
     turns_are = ap (λ v. v.items) (h.turns ∙ turns)
@@ -315,7 +315,7 @@ module _ (r : Run) (table : TableId) (parts : ℕ) (a : Worker) (at : IsAt r tab
       taken = suc at.taken;
       standing = behind_it;
       own = ap (λ s. s.table_id) seat ∙ own ∙ at.own;
-      view = view_is;
+      view = ended_view;
       seat = record {
         run_is = at.seat.run_is;
         thread = at.seat.thread ∙ thread_is;
@@ -359,8 +359,8 @@ module _ (r : Run) (table : TableId) (parts : ℕ) (a : Worker) (at : IsAt r tab
           turns = turns_are;
           done = (let d = done_is in omega (arith, d));
           left = (let l = h.left in omega (arith, l, steps));
-          seen = subst (λ v. seen_of v.0 ≤ seen_of b.seat.me.0) (sym at.view) (subst (λ v. at.standing.seen ≤ seen_of v.0) (sym view_is) (let s = now_standing.1 in omega (arith, s)));
-          looks = subst (λ v. looks_of v.0 ≤ looks_of b.seat.me.0) (sym at.view) (subst (λ v. at.standing.looks ≤ looks_of v.0) (sym view_is) (omega arith));
+          seen = subst (λ v. seen_of v.0 ≤ seen_of b.seat.me.0) (sym at.view) (subst (λ v. at.standing.seen ≤ seen_of v.0) (sym ended_view) (let s = now_standing.1 in omega (arith, s)));
+          looks = subst (λ v. looks_of v.0 ≤ looks_of b.seat.me.0) (sym at.view) (subst (λ v. at.standing.looks ≤ looks_of v.0) (sym ended_view) (omega arith));
         };
       };
     }

@@ -48,7 +48,7 @@ not_both true e f = cc
 not_both false e f = cc
 
 module _ (r : Run) (h : IsEnforced r) (t k : ℕ) (l : LocalState) (local : state_at r.program r.input r.schedule t k ≡ Some l) where
-  p : NumberedProgram
+  abbrev pub p : NumberedProgram
   p = r.program
 
   pub at_step : k < length (course p r.input r.schedule t) → HasStep r t k l
@@ -90,12 +90,6 @@ no_number xs None e = nothing xs
 no_number xs (Some n) e = absurd cc
 
 module _ (r : Run) (table : TableId) (a b : Worker) (at : IsAt r table 0 a) (n : HasStep r a.thread.0 at.taken a.fiber) where
-  p2 : NumberedProgram
-  p2 = r.program
-
-  t : ℕ
-  t = a.thread.0
-
   pub still_at : (answer : ℕ) → deeds.is_event n.step ≡ false → number_printed (next r.program a.fiber) ≡ None → answer ≡ answer_at r a.thread.0 at.taken a.fiber
       → IsResumed r.program answer a b → b.seat.table_id ≡ table → (w : Standing) → b.seat.me ≡ (views.Worker w, [])
       → IsSeatAt r a.thread.0 (suc at.taken) 0 w → w.seen ≡ at.standing.seen → IsAt r table 0 b

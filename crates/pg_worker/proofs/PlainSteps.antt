@@ -41,7 +41,7 @@ use Rattle.pg_worker.proofs.NextSteps.{HasStep, has_step, still_at}
 
 -- ---- what an access tells
 
-tells_read : (q : ByteRange) (n : ℕ) (o : Option Access) → accessed o ≡ Some (record { at = q; number = n; writes = false }) → reads_at q o ≡ true
+pub tells_read : (q : ByteRange) (n : ℕ) (o : Option Access) → accessed o ≡ Some (record { at = q; number = n; writes = false }) → reads_at q o ≡ true
 tells_read q n None e = absurd cc
 tells_read q n (Some x) e =
     let same : Path Accessed _ (record { at = q; number = n; writes = false }) = some_is _ _ e in
@@ -50,7 +50,7 @@ tells_read q n (Some x) e =
     some_is : (x y : Accessed) → Some x ≡ Some y → x ≡ y
     some_is x y k = cc
 
-tells_write : (q : ByteRange) (n : ℕ) (o : Option Access) → accessed o ≡ Some (record { at = q; number = n; writes = true }) → (writes_at q o && has_number n o) ≡ true
+pub tells_write : (q : ByteRange) (n : ℕ) (o : Option Access) → accessed o ≡ Some (record { at = q; number = n; writes = true }) → (writes_at q o && has_number n o) ≡ true
 tells_write q n None e = absurd cc
 tells_write q n (Some x) e =
     let same : Path Accessed _ (record { at = q; number = n; writes = true }) = some_is _ _ e in
@@ -99,7 +99,7 @@ module _ (r : Run) (table : TableId) (a : Worker) (at : IsAt r table 0 a) (few :
         ∙ ap (λ (e : Bool). if e then suc (shared_in r.program r.input r.schedule a.thread.0 at.taken) else shared_in r.program r.input r.schedule a.thread.0 at.taken) (n.of.shared ∙ own));
   }
 
-  behind_it : Standing
+  abbrev behind_it : Standing
   behind_it = record { run = at.standing.run; thread = at.standing.thread; done = suc at.standing.done; due = false; parts = 0; seen = at.standing.seen; looks = at.standing.looks }
 
   moves : (n : HasStep r a.thread.0 at.taken a.fiber) → is_shared_action (next r.program a.fiber) ≡ true → IsSeatAt r a.thread.0 (suc at.taken) 0 behind_it

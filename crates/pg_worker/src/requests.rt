@@ -81,6 +81,7 @@ impl Worker {
         ensures at { IsAt (run_of shared.now.program.now shared.now.schedule.now shared.now.input.now) shared.now.words.table.shared.table_id 0 self.new }
         ensures took { TookTurn self.old self.new }
     {
+        let _turn = self.next_turn();
         let number = accesses::load_due(&shared.words, &mut self.seat, at);
         self.end_turn(shared, number, None);
     }
@@ -96,6 +97,7 @@ impl Worker {
         ensures at { IsAt (run_of shared.now.program.now shared.now.schedule.now shared.now.input.now) shared.now.words.table.shared.table_id 0 self.new }
         ensures took { TookTurn self.old self.new }
     {
+        let _turn = self.next_turn();
         accesses::store_due(&shared.words, &mut self.seat, at, number);
         self.end_turn(shared, 0, None);
     }
@@ -125,6 +127,7 @@ impl Worker {
         ensures took { TookTurn self.old self.new }
     {
         let _is_return = is_return;
+        let _turn = self.next_turn();
         turns::put_word(&shared.words, &mut self.seat, self.thread, value);
         let reply = self.reply(shared);
         self.end_turn(shared, reply, None);
@@ -180,8 +183,11 @@ impl Worker {
         ensures at { IsAt (run_of shared.now.program.now shared.now.schedule.now shared.now.input.now) shared.now.words.table.shared.table_id 0 self.new }
         ensures took { TookTurn self.old self.new }
     {
-        let answer = answer_to(request, self.reply(shared));
-        self.end_turn(shared, answer, printed_by(request));
+        let _turn = self.next_turn();
+        let reply = self.reply(shared);
+        let answer = answer_to(request, reply);
+        let printed = printed_by(request);
+        self.end_turn(shared, answer, printed);
     }
 
     /// The request of the turn that is due.

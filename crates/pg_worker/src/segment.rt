@@ -1,7 +1,9 @@
 //! Segments: the steps of a worker until its next turn isn't due.
 
-ghost use Rattle.std.specs.Prelude.{◌≡◌, ◌<◌, ◌⊎◌, ◌↔◌, length, true};
-ghost use Rattle.pg_run_thread.specs.Step.{next};
+ghost use Rattle.std.specs.Prelude.{◌≡◌, ◌<◌, ◌⊎◌, ◌↔◌, IfNone, IfSome, length, true};
+ghost use Rattle.pg_run_thread.specs.States.{IsOf};
+ghost use Rattle.pg_run_thread.specs.Step.{after, next};
+ghost use Rattle.pg_run_thread.specs.declared.action.Action.TheVariants as actions;
 ghost use Rattle.pg_law_course.specs.Rests.{is_trap};
 ghost use Rattle.pg_seats.specs.Plan.{run_of};
 ghost use Rattle.pg_worker.specs.Standing.{HasToWait, IsAt, TookOne, WentOn};
@@ -9,7 +11,21 @@ ghost use Rattle.pg_worker.specs.Standing.{HasToWait, IsAt, TookOne, WentOn};
 use crate::hook::Hook;
 use crate::shared::Shared;
 use crate::worker::{Paused, Taken, Worker};
-use pg_run_thread::{Action, Advance};
+use pg_ir::Program;
+use pg_run_thread::{Action, Advance, Fiber};
+
+/// Does a thread's next step if only its own state decides and sees it, or else gives what it asks.
+fn ask(p: &Program, fiber: &mut Fiber) -> Option<Action>
+    requires of { IsOf p.now fiber.old }
+    ensures of { IsOf p.now fiber.new }
+    ensures asks { IfSome result (λ a. (fiber.new ≡ fiber.old) × (a ≡ next p.now fiber.old)) }
+    ensures does { IfNone result ((next p.now fiber.old ≡ actions.Local) × (fiber.new ≡ after p.now fiber.old 0)) }
+{
+    match fiber.advance(p) {
+        Advance::Done(_) => None,
+        Advance::Asks(action) => Some(action),
+    }
+}
 
 impl Worker {
     /// Its next action, which isn't done yet, by kinds.
@@ -29,7 +45,7 @@ impl Worker {
                 return Taken::Traps;
             }
             Action::Local => {
-                self.resume(shared.program, 0);
+                self.local(shared);
                 return Taken::Step;
             }
             Action::In(index) => {
@@ -72,12 +88,12 @@ impl Worker {
         ensures waits { result ≡ Taken.Waits → HasToWait self.old self.new × WentOn self.old self.new }
         ensures traps { result ≡ Taken.Traps → (self.new ≡ self.old) × (is_trap (next shared.now.program.now self.new.fiber) ≡ true) }
     {
-        match self.fiber.advance(shared.program) {
-            Advance::Done(_) => {
+        match ask(shared.program, &mut self.fiber) {
+            None => {
                 self.left -= 1;
                 Taken::Step
             }
-            Advance::Asks(action) => self.asked(shared, action),
+            Some(action) => self.asked(shared, action),
         }
     }
 
@@ -91,22 +107,21 @@ impl Worker {
         ensures stopped { result ≡ Paused.Stopped → (self.new.done < length self.new.turns.items) × ((is_trap (next shared.now.program.now self.new.fiber) ≡ true) ⊎ (self.new.left ≡ 0)) }
         ensures waits { result ≡ Paused.Waiting → HasToWait self.old self.new }
     {
-        let steps = self.left;
-        for _ in 0..steps {
-            if self.done >= self.turns.len() {
-                return Paused::Done;
+        while self.done < self.turns.len() {
+            if self.left == 0 {
+                return Paused::Stopped;
             }
             hook.at_action(self.thread, self.fiber.id(), !self.fiber.has_begun());
             match self.step(shared) {
                 Taken::Step => {}
-                Taken::Waits => return Paused::Waiting,
-                Taken::Traps => return Paused::Stopped,
+                Taken::Waits => {
+                    return Paused::Waiting;
+                }
+                Taken::Traps => {
+                    return Paused::Stopped;
+                }
             }
         }
-        if self.done >= self.turns.len() {
-            Paused::Done
-        } else {
-            Paused::Stopped
-        }
+        Paused::Done
     }
 }

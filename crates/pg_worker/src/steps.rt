@@ -29,6 +29,18 @@ impl Worker {
         self.left -= 1;
     }
 
+    /// A step that only its own state decides and sees.
+    pub(crate) fn local(&mut self, shared: &Shared<'_>)
+        requires at { IsAt (run_of shared.now.program.now shared.now.schedule.now shared.now.input.now) shared.now.words.table.shared.table_id 0 self.old }
+        requires left { 0 < self.old.left }
+        requires turn { self.old.done < length self.old.turns.items }
+        requires next { next shared.now.program.now self.old.fiber ≡ actions.Local }
+        ensures at { IsAt (run_of shared.now.program.now shared.now.schedule.now shared.now.input.now) shared.now.words.table.shared.table_id 0 self.new }
+        ensures took { TookOne self.old self.new }
+    {
+        self.resume(shared.program, 0);
+    }
+
     /// Reads the input's number at an index.
     pub(crate) fn read(&mut self, shared: &Shared<'_>, index: i64)
         requires at { IsAt (run_of shared.now.program.now shared.now.schedule.now shared.now.input.now) shared.now.words.table.shared.table_id 0 self.old }
