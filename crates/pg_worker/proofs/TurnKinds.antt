@@ -149,7 +149,7 @@ module _ (r : Run) (table : TableId) (parts : ℕ) (a : Worker) (at : IsAt r tab
   word_is k happens =
       let u = step.of.turn is_event in
       let h = happens u.0.object in
-      by_kind step.step.told u.0 step.step.told.kind u.1.0 ∙ ap kind_leaves (same_kind _ h.0 (sym u.1.1.happens ∙ h.1.0) ∙ h.1.1)
+      by_kind step.step.told u.0 step.step.told.kind u.1 ∙ ap kind_leaves (same_kind _ h.0 (sym u.2.happens ∙ h.1.0) ∙ h.1.1)
 
   store_is : (action : Action) → next r.program a.fiber ≡ action → has_store step.step ≡ writes_in (access_by cells made action)
   store_is action e = write_told (access_of step.step.told) ∙ ap writes_in (step.of.access ∙ ap (access_by cells made) e)

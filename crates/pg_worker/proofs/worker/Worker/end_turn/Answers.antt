@@ -15,7 +15,7 @@ returns-clause-at c =
     (ap (λ (w : Worker). w.fiber) same) (ap (λ (w : Worker). w.thread) same) (ap (λ (w : Worker). w.turns) same) (ap (λ (w : Worker). w.done + 1) same) (ap (λ (w : Worker). w.left) same)
     (c.print.ensures.items ∙ ap (λ o. c.args.self.now.prints.items ++ cons_option o []) c.requires.printed) c.print.ensures.room
     (c.advance.ensures.own.0 ∙ ap (λ (w : Worker). w.seat.table_id) same) c.advance.ensures.view.0
-    (c.advance.ensures.view.1.0 ∙ ap (λ (w : Worker). (advanced w.seat.me.0 c.advance.ensures.view.0, w.seat.me.1)) same) (subst (λ (w : Worker). IsNow w.seat.me.0 c.advance.ensures.view.0) same c.advance.ensures.view.1.1)
+    (c.advance.ensures.view.1 ∙ ap (λ (w : Worker). (advanced w.seat.me.0 c.advance.ensures.view.0, w.seat.me.1)) same) (subst (λ (w : Worker). IsNow w.seat.me.0 c.advance.ensures.view.0) same c.advance.ensures.view.2)
     c.resume.ensures.resumed c.resume.ensures.seat
 
 pub returns-clause-took : goal.returns-clause-took
@@ -27,5 +27,5 @@ returns-clause-took c =
     (ap (λ (w : Worker). w.fiber) same) (ap (λ (w : Worker). w.thread) same) (ap (λ (w : Worker). w.turns) same) (ap (λ (w : Worker). w.done + 1) same) (ap (λ (w : Worker). w.left) same)
     (c.print.ensures.items ∙ ap (λ o. c.args.self.now.prints.items ++ cons_option o []) c.requires.printed) c.print.ensures.room
     (c.advance.ensures.own.0 ∙ ap (λ (w : Worker). w.seat.table_id) same) c.advance.ensures.view.0
-    (c.advance.ensures.view.1.0 ∙ ap (λ (w : Worker). (advanced w.seat.me.0 c.advance.ensures.view.0, w.seat.me.1)) same) (subst (λ (w : Worker). IsNow w.seat.me.0 c.advance.ensures.view.0) same c.advance.ensures.view.1.1)
+    (c.advance.ensures.view.1 ∙ ap (λ (w : Worker). (advanced w.seat.me.0 c.advance.ensures.view.0, w.seat.me.1)) same) (subst (λ (w : Worker). IsNow w.seat.me.0 c.advance.ensures.view.0) same c.advance.ensures.view.2)
     c.resume.ensures.resumed c.resume.ensures.seat
