@@ -1,0 +1,5 @@
+mod NextSteps
+mod PlainSteps
+mod DueTurns
+mod Segments
+mod TurnKinds

@@ -1,0 +1,16 @@
+//! Workers: each runs one thread of a program along a schedule over words that it shares with the others, freely between its turns.
+//! A worker's own state is what the full guided run has for its thread behind the worker's steps so far.
+#![tactic(auto)]
+
+mod awaits;
+mod hook;
+mod requests;
+mod segment;
+mod shared;
+mod steps;
+mod turns;
+mod worker;
+
+pub use hook::{Hook, NoHook};
+pub use shared::Shared;
+pub use worker::{Paused, Worker};
