@@ -1,6 +1,9 @@
 -- Where a worker stands in its run, and what its steps change.
-use Rattle.std.specs.Prelude.{◌≡◌, ℕ, suc, ◌+◌, ◌<◌, ◌≤◌, ◌&&◌, ◌||◌, [], length, Bool, true, false, Option, Some, slice_get, slice_index, vec_capacity}
+use Rattle.std.specs.Prelude.{◌≡◌, ℕ, suc, ◌+◌, ◌<◌, ◌≤◌, ◌==◌, ◌&&◌, ◌||◌, List, [], ◌++◌, length, take, Bool, true, false, Option, Some, None, is_some, slice_get, slice_index, vec_capacity, if◌then◌else◌}
+use Rattle.std.specs.List.{cons_option}
 use Rattle.atomic_table.specs.Seated.{TableId}
+use Rattle.pg_num.specs.Places.{ByteRange, IsPlace}
+use Rattle.pg_num.specs.declared.layout.TheConstants.{MEMORY_BYTES}
 use Rattle.pg_num.specs.declared.limits.TheConstants.{GUIDED_STEP_LIMIT}
 use Rattle.pg_ir.specs.declared.request.Request.{Request}
 use Rattle.pg_ir.specs.declared.request.Request.TheVariants as requests
@@ -11,17 +14,40 @@ use Rattle.pg_run_thread.specs.LocalState.{LocalState}
 use Rattle.pg_run_thread.specs.Step.{after, next}
 use Rattle.pg_run_thread.specs.Told.{id_of}
 use Rattle.pg_run_thread.specs.States.{IsOf}
-use Rattle.pg_law_runs.specs.Deeds.{is_event_at}
-use Rattle.pg_law_course.specs.Course.{cells_before, shared_in, state_at, turns_before, turns_in, turns_of}
-use Rattle.pg_law_course.specs.Prints.{numbers_printed}
+use Rattle.pg_run.specs.declared.guided_end.GuidedEnd.{GuidedEnd}
+use Rattle.pg_run.specs.declared.guided_end.GuidedEnd.TheVariants as ends
+use Rattle.pg_law_threads.specs.Effects.{or_old}
+use Rattle.pg_law_runs.specs.Deeds.{Did, is_event_at}
+use Rattle.pg_law_course.specs.Course.{cells_before, course, shared_in, state_at, turns_before, turns_in, turns_of}
+use Rattle.pg_law_course.specs.Prints.{number_printed, numbers_printed, word_behind}
+use Rattle.pg_law_course.specs.Rests.{is_trap, trap_end}
 use Rattle.pg_law_course.specs.Steps.{answer_by}
 use Rattle.pg_seats.specs.declared.run.Run.{Run}
 use Rattle.pg_seats.specs.declared.run.Standing.{Standing}
 use Rattle.pg_seats.specs.declared.run.View.{View}
 use Rattle.pg_seats.specs.declared.run.View.TheVariants as views
-use Rattle.pg_seats.specs.Plan.{IsEnforced}
+use Rattle.pg_seats.specs.Plan.{IsEnforced, run_of}
 use Rattle.pg_seats.specs.Views.{is_due, seen_of}
+use Rattle.pg_worker.specs.declared.shared.Shared.{Shared}
 use Rattle.pg_worker.specs.declared.worker.Worker.{Worker}
+use Rattle.pg_worker.specs.Pages.{is_marked, page_of}
+
+-- the run that workers share
+abbrev pub run_in : Shared → Run
+run_in s = run_of s.program.now s.schedule.now s.input.now s.epoch
+
+-- the table of their words
+abbrev pub table_in : Shared → TableId
+table_in s = s.words.table.shared.table_id
+
+-- what a thread's seat knows before its first step
+abbrev pub first_view : Run → ℕ → View
+first_view r t = views.Worker (record { run = r; thread = t; done = 0; due = false; parts = 0; seen = 0; looks = 0 })
+
+-- how many turns a note knows of
+abbrev pub noted_in : View → ℕ
+noted_in (views.Note r n) = n
+noted_in v = 0
 
 -- how often the turn word was read through a seat
 abbrev pub looks_of : View → ℕ
@@ -38,6 +64,11 @@ pub record IsSeatAt (r : Run) (t k parts : ℕ) (w : Standing) : Type 0 where
   pub thread : w.thread ≡ t
   pub parts_done : w.parts ≡ parts
   pub done : w.done ≡ shared_in r.program r.input r.schedule t k
+
+-- each byte of memory that the first k steps of thread t write lies in a page that is marked
+abbrev pub HasMarks : Run → ℕ → ℕ → List ℕ → Type 0
+HasMarks r t k words = (i : ℕ) (d : Did) (b : ℕ) → i < k → slice_get (course r.program r.input r.schedule t) i ≡ Some d → b < MEMORY_BYTES
+    → is_some (d.writes b) ≡ true → is_marked words (page_of b) ≡ true
 
 -- the worker stands behind so many steps of its thread in the full guided run, with the local state that the thread has there; where
 -- the next step is a turn that is due, so many parts of it are done
@@ -58,6 +89,17 @@ pub record IsAt (r : Run) (table : TableId) (parts : ℕ) (w : Worker) : Type 0 
   pub prints : w.prints.items ≡ numbers_printed r.program r.input r.schedule w.thread.0 taken
   pub few : length w.prints.items ≤ w.done
   pub room : length w.turns.items ≤ vec_capacity w.prints
+  -- the main thread's worker keeps its thread's word
+  pub value : w.thread.0 ≡ 0 → w.value ≡ word_behind 0 0 (take taken (course r.program r.input r.schedule 0))
+  pub marked : HasMarks r w.thread.0 taken w.pages.words.items
+
+-- it can take no step: its next action traps by itself, or its steps are spent
+abbrev pub is_stopped : NumberedProgram → Worker → Bool
+is_stopped p w = is_trap (next p w.fiber) || (w.left == 0)
+
+-- the end of the run where it owns the next turn and is stopped
+abbrev pub end_by : NumberedProgram → Worker → GuidedEnd
+end_by p w = if w.left == 0 then ends.Budget w.thread else trap_end (id_of w.fiber) (next p w.fiber)
 
 -- what a worker's steps leave as it was, and what they only raise
 pub record WentOn (a b : Worker) : Type 0 where
@@ -87,6 +129,8 @@ pub record IsResumed (p : NumberedProgram) (answer : ℕ) (a b : Worker) : Type 
   pub turns : b.turns ≡ a.turns
   pub done : b.done ≡ a.done
   pub prints : b.prints ≡ a.prints
+  pub value : b.value ≡ a.value
+  pub pages : b.pages ≡ a.pages
 
 -- ---- turns
 
@@ -125,6 +169,27 @@ pub record IsAnswered (r : Run) (table : TableId) (answer : ℕ) (w : Worker) : 
 pub record TookTurn (a b : Worker) : Type 0 where
   pub turn : b.done ≡ suc a.done
   pub took : TookOne a b
+
+-- where an action stores
+abbrev pub place_stored : Action → Option ByteRange
+place_stored (actions.Store q n) = Some q
+place_stored (actions.Event (requests.Create q f n)) = Some q
+place_stored (actions.Event (requests.Join u (Some q))) = Some q
+place_stored action = None
+
+-- the value with which it ends its thread
+abbrev pub value_left : Action → Option ℕ
+value_left (actions.Event (requests.Exit n is_return)) = Some n
+value_left action = None
+
+-- b is a with what this action prints, the value that it leaves, and a mark where it stores
+pub record HasKept (action : Action) (a b : Worker) : Type 0 where
+  pub prints : b.prints.items ≡ a.prints.items ++ cons_option (number_printed action) []
+  pub room : vec_capacity a.prints ≤ vec_capacity b.prints
+  pub value : b.value ≡ or_old (value_left action) a.value
+  pub stored : (q : ByteRange) → place_stored action ≡ Some q → IsPlace q × (is_marked b.pages.words.items (page_of q.start) ≡ true)
+  pub marked : (page : ℕ) → is_marked a.pages.words.items page ≡ true → is_marked b.pages.words.items page ≡ true
+  pub rest : b ≡ record a { prints = b.prints; value = b.value; pages = b.pages }
 
 -- a turn that leaves no word of a thread and stores nothing
 abbrev pub is_bare : Request → Bool

@@ -4,10 +4,13 @@
 
 mod awaits;
 mod hook;
+pub mod pages;
 mod requests;
 mod segment;
 mod shared;
+mod starts;
 mod steps;
+mod turn_lists;
 mod turns;
 mod worker;
 

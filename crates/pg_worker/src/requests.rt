@@ -4,10 +4,8 @@ ghost use Rattle.std.specs.Prelude.{◌≡◌, ℕ, ℤ, ◌<◌, List, Some, le
 ghost use Rattle.pg_ir.specs.declared.request.Request.TheVariants as requests;
 ghost use Rattle.pg_run_thread.specs.Step.{next};
 ghost use Rattle.pg_run_thread.specs.declared.action.Action.TheVariants as actions;
-ghost use Rattle.pg_law_course.specs.Prints.{number_printed};
 ghost use Rattle.pg_law_course.specs.Steps.{answer_by, made_by};
-ghost use Rattle.pg_seats.specs.Plan.{run_of};
-ghost use Rattle.pg_worker.specs.Standing.{IsAt, IsDue, TookTurn, is_bare, next_turn_of, stands_at_event};
+ghost use Rattle.pg_worker.specs.Standing.{IsAt, IsDue, TookTurn, is_bare, next_turn_of, run_in, stands_at_event, table_in};
 
 use crate::shared::Shared;
 use crate::worker::Worker;
@@ -15,16 +13,6 @@ use pg_ir::{Request, ThreadNo};
 use pg_num::Place as Range;
 use pg_run_thread::Action;
 use pg_seats::{accesses, turns};
-
-/// The number that a request prints, if it prints one.
-fn printed_by(request: Request) -> Option<u64>
-    ensures { result ≡ number_printed (actions.Event request) }
-{
-    match request {
-        Request::Out { value } | Request::Putchar { value } => Some(value),
-        _ => None,
-    }
-}
 
 /// The answer to a request that reads and leaves nothing, by the schedule's reply.
 fn answer_to(request: Request, reply: u64) -> u64
@@ -72,78 +60,77 @@ impl Worker {
 
     /// A load that is a turn.
     fn load_due(&mut self, shared: &Shared<'_>, at: Range)
-        requires at { IsAt (run_of shared.now.program.now shared.now.schedule.now shared.now.input.now) shared.now.words.table.shared.table_id 0 self.old }
+        requires at { IsAt (run_in shared.now) (table_in shared.now) 0 self.old }
         requires left { 0 < self.old.left }
         requires turn { self.old.done < length self.old.turns.items }
-        requires event { stands_at_event (run_of shared.now.program.now shared.now.schedule.now shared.now.input.now) self.old.fiber ≡ true }
+        requires event { stands_at_event (run_in shared.now) self.old.fiber ≡ true }
         requires due { IsDue self.old }
         requires next { next shared.now.program.now self.old.fiber ≡ actions.Load at }
-        ensures at { IsAt (run_of shared.now.program.now shared.now.schedule.now shared.now.input.now) shared.now.words.table.shared.table_id 0 self.new }
+        ensures at { IsAt (run_in shared.now) (table_in shared.now) 0 self.new }
         ensures took { TookTurn self.old self.new }
     {
         let _turn = self.next_turn();
         let number = accesses::load_due(&shared.words, &mut self.seat, at);
-        self.end_turn(shared, number, None);
+        self.end_turn(shared, Action::Load(at), number);
     }
 
     /// A store that is a turn.
     fn store_due(&mut self, shared: &Shared<'_>, at: Range, number: u64)
-        requires at { IsAt (run_of shared.now.program.now shared.now.schedule.now shared.now.input.now) shared.now.words.table.shared.table_id 0 self.old }
+        requires at { IsAt (run_in shared.now) (table_in shared.now) 0 self.old }
         requires left { 0 < self.old.left }
         requires turn { self.old.done < length self.old.turns.items }
-        requires event { stands_at_event (run_of shared.now.program.now shared.now.schedule.now shared.now.input.now) self.old.fiber ≡ true }
+        requires event { stands_at_event (run_in shared.now) self.old.fiber ≡ true }
         requires due { IsDue self.old }
         requires next { next shared.now.program.now self.old.fiber ≡ actions.Store at number }
-        ensures at { IsAt (run_of shared.now.program.now shared.now.schedule.now shared.now.input.now) shared.now.words.table.shared.table_id 0 self.new }
+        ensures at { IsAt (run_in shared.now) (table_in shared.now) 0 self.new }
         ensures took { TookTurn self.old self.new }
     {
         let _turn = self.next_turn();
         accesses::store_due(&shared.words, &mut self.seat, at, number);
-        self.end_turn(shared, 0, None);
+        self.end_turn(shared, Action::Store(at, number), 0);
     }
 
     /// The start of the thread, which reads its argument.
     fn start(&mut self, shared: &Shared<'_>)
-        requires at { IsAt (run_of shared.now.program.now shared.now.schedule.now shared.now.input.now) shared.now.words.table.shared.table_id 0 self.old }
+        requires at { IsAt (run_in shared.now) (table_in shared.now) 0 self.old }
         requires left { 0 < self.old.left }
         requires turn { self.old.done < length self.old.turns.items }
         requires due { IsDue self.old }
         requires next { next shared.now.program.now self.old.fiber ≡ actions.Event requests.Start }
-        ensures at { IsAt (run_of shared.now.program.now shared.now.schedule.now shared.now.input.now) shared.now.words.table.shared.table_id 0 self.new }
+        ensures at { IsAt (run_in shared.now) (table_in shared.now) 0 self.new }
         ensures took { TookTurn self.old self.new }
     {
         let argument = turns::get_word(&shared.words, &mut self.seat, self.thread);
-        self.end_turn(shared, argument, None);
+        self.end_turn(shared, Action::Event(Request::Start), argument);
     }
 
     /// The exit of the thread, which leaves its value.
     fn exit(&mut self, shared: &Shared<'_>, value: u64, is_return: bool)
-        requires at { IsAt (run_of shared.now.program.now shared.now.schedule.now shared.now.input.now) shared.now.words.table.shared.table_id 0 self.old }
+        requires at { IsAt (run_in shared.now) (table_in shared.now) 0 self.old }
         requires left { 0 < self.old.left }
         requires turn { self.old.done < length self.old.turns.items }
         requires due { IsDue self.old }
         requires next { next shared.now.program.now self.old.fiber ≡ actions.Event (requests.Exit value is_return) }
-        ensures at { IsAt (run_of shared.now.program.now shared.now.schedule.now shared.now.input.now) shared.now.words.table.shared.table_id 0 self.new }
+        ensures at { IsAt (run_in shared.now) (table_in shared.now) 0 self.new }
         ensures took { TookTurn self.old self.new }
     {
-        let _is_return = is_return;
         let _turn = self.next_turn();
         turns::put_word(&shared.words, &mut self.seat, self.thread, value);
         let reply = self.reply(shared);
-        self.end_turn(shared, reply, None);
+        let action = Action::Event(Request::Exit { value, is_return });
+        self.end_turn(shared, action, reply);
     }
 
     /// A create, which leaves the new thread's argument and stores its number.
     fn create(&mut self, shared: &Shared<'_>, at: Range, function: u32, argument: u64)
-        requires at { IsAt (run_of shared.now.program.now shared.now.schedule.now shared.now.input.now) shared.now.words.table.shared.table_id 0 self.old }
+        requires at { IsAt (run_in shared.now) (table_in shared.now) 0 self.old }
         requires left { 0 < self.old.left }
         requires turn { self.old.done < length self.old.turns.items }
         requires due { IsDue self.old }
         requires next { next shared.now.program.now self.old.fiber ≡ actions.Event (requests.Create at function argument) }
-        ensures at { IsAt (run_of shared.now.program.now shared.now.schedule.now shared.now.input.now) shared.now.words.table.shared.table_id 0 self.new }
+        ensures at { IsAt (run_in shared.now) (table_in shared.now) 0 self.new }
         ensures took { TookTurn self.old self.new }
     {
-        let _function = function;
         let made = self.made(shared);
         turns::put_word(
             &shared.words,
@@ -153,51 +140,59 @@ impl Worker {
         );
         accesses::store_due(&shared.words, &mut self.seat, at, made);
         let reply = self.reply(shared);
-        self.end_turn(shared, reply, None);
+        let action = Action::Event(Request::Create {
+            at,
+            function,
+            argument,
+        });
+        self.end_turn(shared, action, reply);
     }
 
     /// A join with a place, which stores the value of the thread that it joins.
     fn join(&mut self, shared: &Shared<'_>, target: u64, at: Range)
-        requires at { IsAt (run_of shared.now.program.now shared.now.schedule.now shared.now.input.now) shared.now.words.table.shared.table_id 0 self.old }
+        requires at { IsAt (run_in shared.now) (table_in shared.now) 0 self.old }
         requires left { 0 < self.old.left }
         requires turn { self.old.done < length self.old.turns.items }
         requires due { IsDue self.old }
         requires next { next shared.now.program.now self.old.fiber ≡ actions.Event (requests.Join target (Some at)) }
-        ensures at { IsAt (run_of shared.now.program.now shared.now.schedule.now shared.now.input.now) shared.now.words.table.shared.table_id 0 self.new }
+        ensures at { IsAt (run_in shared.now) (table_in shared.now) 0 self.new }
         ensures took { TookTurn self.old self.new }
     {
         let value = turns::get_word(&shared.words, &mut self.seat, ThreadNo(target as u8));
         accesses::store_due(&shared.words, &mut self.seat, at, value);
         let reply = self.reply(shared);
-        self.end_turn(shared, reply, None);
+        let action = Action::Event(Request::Join {
+            target,
+            at: Some(at),
+        });
+        self.end_turn(shared, action, reply);
     }
 
     /// A turn that leaves no word and stores nothing.
     fn bare(&mut self, shared: &Shared<'_>, request: Request)
-        requires at { IsAt (run_of shared.now.program.now shared.now.schedule.now shared.now.input.now) shared.now.words.table.shared.table_id 0 self.old }
+        requires at { IsAt (run_in shared.now) (table_in shared.now) 0 self.old }
         requires left { 0 < self.old.left }
         requires turn { self.old.done < length self.old.turns.items }
         requires due { IsDue self.old }
         requires next { next shared.now.program.now self.old.fiber ≡ actions.Event request }
         requires bare { is_bare request ≡ true }
-        ensures at { IsAt (run_of shared.now.program.now shared.now.schedule.now shared.now.input.now) shared.now.words.table.shared.table_id 0 self.new }
+        ensures at { IsAt (run_in shared.now) (table_in shared.now) 0 self.new }
         ensures took { TookTurn self.old self.new }
     {
         let _turn = self.next_turn();
         let reply = self.reply(shared);
         let answer = answer_to(request, reply);
-        let printed = printed_by(request);
-        self.end_turn(shared, answer, printed);
+        self.end_turn(shared, Action::Event(request), answer);
     }
 
     /// The request of the turn that is due.
     fn ask(&mut self, shared: &Shared<'_>, request: Request)
-        requires at { IsAt (run_of shared.now.program.now shared.now.schedule.now shared.now.input.now) shared.now.words.table.shared.table_id 0 self.old }
+        requires at { IsAt (run_in shared.now) (table_in shared.now) 0 self.old }
         requires left { 0 < self.old.left }
         requires turn { self.old.done < length self.old.turns.items }
         requires due { IsDue self.old }
         requires next { next shared.now.program.now self.old.fiber ≡ actions.Event request }
-        ensures at { IsAt (run_of shared.now.program.now shared.now.schedule.now shared.now.input.now) shared.now.words.table.shared.table_id 0 self.new }
+        ensures at { IsAt (run_in shared.now) (table_in shared.now) 0 self.new }
         ensures took { TookTurn self.old self.new }
     {
         match request {
@@ -218,13 +213,13 @@ impl Worker {
 
     /// The turn that is due: an event of the thread, or a load or store that is one.
     pub(crate) fn take_turn(&mut self, shared: &Shared<'_>, action: Action)
-        requires at { IsAt (run_of shared.now.program.now shared.now.schedule.now shared.now.input.now) shared.now.words.table.shared.table_id 0 self.old }
+        requires at { IsAt (run_in shared.now) (table_in shared.now) 0 self.old }
         requires left { 0 < self.old.left }
         requires turn { self.old.done < length self.old.turns.items }
-        requires event { stands_at_event (run_of shared.now.program.now shared.now.schedule.now shared.now.input.now) self.old.fiber ≡ true }
+        requires event { stands_at_event (run_in shared.now) self.old.fiber ≡ true }
         requires due { IsDue self.old }
         requires next { next shared.now.program.now self.old.fiber ≡ action }
-        ensures at { IsAt (run_of shared.now.program.now shared.now.schedule.now shared.now.input.now) shared.now.words.table.shared.table_id 0 self.new }
+        ensures at { IsAt (run_in shared.now) (table_in shared.now) 0 self.new }
         ensures took { TookTurn self.old self.new }
     {
         match action {

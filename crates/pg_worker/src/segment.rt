@@ -5,8 +5,7 @@ ghost use Rattle.pg_run_thread.specs.States.{IsOf};
 ghost use Rattle.pg_run_thread.specs.Step.{after, next};
 ghost use Rattle.pg_run_thread.specs.declared.action.Action.TheVariants as actions;
 ghost use Rattle.pg_law_course.specs.Rests.{is_trap};
-ghost use Rattle.pg_seats.specs.Plan.{run_of};
-ghost use Rattle.pg_worker.specs.Standing.{HasToWait, IsAt, TookOne, WentOn};
+ghost use Rattle.pg_worker.specs.Standing.{HasToWait, IsAt, TookOne, WentOn, is_stopped, run_in, table_in};
 
 use crate::hook::Hook;
 use crate::shared::Shared;
@@ -30,14 +29,14 @@ fn ask(p: &Program, fiber: &mut Fiber) -> Option<Action>
 impl Worker {
     /// Its next action, which isn't done yet, by kinds.
     fn asked(&mut self, shared: &Shared<'_>, action: Action) -> Taken
-        requires at { IsAt (run_of shared.now.program.now shared.now.schedule.now shared.now.input.now) shared.now.words.table.shared.table_id 0 self.old }
+        requires at { IsAt (run_in shared.now) (table_in shared.now) 0 self.old }
         requires gated { shared.now.gated ≡ shared.now.schedule.now.gated }
         requires left { 0 < self.old.left }
         requires turn { self.old.done < length self.old.turns.items }
         requires next { next shared.now.program.now self.old.fiber ≡ action }
-        ensures at { IsAt (run_of shared.now.program.now shared.now.schedule.now shared.now.input.now) shared.now.words.table.shared.table_id 0 self.new }
+        ensures at { IsAt (run_in shared.now) (table_in shared.now) 0 self.new }
         ensures took { result ≡ Taken.Step → TookOne self.old self.new }
-        ensures waits { result ≡ Taken.Waits → HasToWait self.old self.new × WentOn self.old self.new }
+        ensures waits { result ≡ Taken.Waits → HasToWait self.old self.new × WentOn self.old self.new × (is_stopped shared.now.program.now self.new ≡ false) }
         ensures traps { result ≡ Taken.Traps → (self.new ≡ self.old) × (is_trap (next shared.now.program.now self.new.fiber) ≡ true) }
     {
         match action {
@@ -79,13 +78,13 @@ impl Worker {
 
     /// Its next step, if it can take one.
     fn step(&mut self, shared: &Shared<'_>) -> Taken
-        requires at { IsAt (run_of shared.now.program.now shared.now.schedule.now shared.now.input.now) shared.now.words.table.shared.table_id 0 self.old }
+        requires at { IsAt (run_in shared.now) (table_in shared.now) 0 self.old }
         requires gated { shared.now.gated ≡ shared.now.schedule.now.gated }
         requires left { 0 < self.old.left }
         requires turn { self.old.done < length self.old.turns.items }
-        ensures at { IsAt (run_of shared.now.program.now shared.now.schedule.now shared.now.input.now) shared.now.words.table.shared.table_id 0 self.new }
+        ensures at { IsAt (run_in shared.now) (table_in shared.now) 0 self.new }
         ensures took { result ≡ Taken.Step → TookOne self.old self.new }
-        ensures waits { result ≡ Taken.Waits → HasToWait self.old self.new × WentOn self.old self.new }
+        ensures waits { result ≡ Taken.Waits → HasToWait self.old self.new × WentOn self.old self.new × (is_stopped shared.now.program.now self.new ≡ false) }
         ensures traps { result ≡ Taken.Traps → (self.new ≡ self.old) × (is_trap (next shared.now.program.now self.new.fiber) ≡ true) }
     {
         match ask(shared.program, &mut self.fiber) {
@@ -99,12 +98,12 @@ impl Worker {
 
     /// Steps until its next turn isn't due, or until it has no turn or no step left.
     pub fn segment<H: Hook>(&mut self, shared: &Shared<'_>, hook: &H) -> Paused
-        requires at { IsAt (run_of shared.now.program.now shared.now.schedule.now shared.now.input.now) shared.now.words.table.shared.table_id 0 self.old }
+        requires at { IsAt (run_in shared.now) (table_in shared.now) 0 self.old }
         requires gated { shared.now.gated ≡ shared.now.schedule.now.gated }
-        ensures at { IsAt (run_of shared.now.program.now shared.now.schedule.now shared.now.input.now) shared.now.words.table.shared.table_id 0 self.new }
+        ensures at { IsAt (run_in shared.now) (table_in shared.now) 0 self.new }
         ensures went { WentOn self.old self.new }
         ensures done { result ≡ Paused.Done ↔ self.new.done ≡ length self.new.turns.items }
-        ensures stopped { result ≡ Paused.Stopped → (self.new.done < length self.new.turns.items) × ((is_trap (next shared.now.program.now self.new.fiber) ≡ true) ⊎ (self.new.left ≡ 0)) }
+        ensures stopped { result ≡ Paused.Stopped ↔ ((self.new.done < length self.new.turns.items) × (is_stopped shared.now.program.now self.new ≡ true)) }
         ensures waits { result ≡ Paused.Waiting → HasToWait self.old self.new }
     {
         while self.done < self.turns.len() {

@@ -5,12 +5,14 @@ use pg_run::Gated;
 use pg_run_trace::Schedule;
 use pg_seats::RunWords;
 
-/// What the workers of a run share: the words, and what the run is computed from.
+/// What the workers of a run share: the words, what the run is computed from, which of the runs on these words it is, and the loads
+/// and stores that are events.
 #[derive(Drop)]
 pub struct Shared<'a> {
-    pub(crate) words: RunWords,
-    pub(crate) program: &'a Program,
-    pub(crate) schedule: &'a Schedule,
-    pub(crate) input: &'a [i64],
-    pub(crate) gated: Gated,
+    pub words: RunWords,
+    pub program: &'a Program,
+    pub schedule: &'a Schedule,
+    pub input: &'a [i64],
+    pub epoch: u64,
+    pub gated: Gated,
 }

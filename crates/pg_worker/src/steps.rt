@@ -6,8 +6,7 @@ ghost use Rattle.pg_run_thread.specs.States.{CanStep, IsOf};
 ghost use Rattle.pg_run_thread.specs.Step.{next};
 ghost use Rattle.pg_run_thread.specs.Told.{id_of};
 ghost use Rattle.pg_run_thread.specs.declared.action.Action.TheVariants as actions;
-ghost use Rattle.pg_seats.specs.Plan.{run_of};
-ghost use Rattle.pg_worker.specs.Standing.{IsAt, IsResumed, TookOne};
+ghost use Rattle.pg_worker.specs.Standing.{IsAt, IsResumed, TookOne, run_in, table_in};
 
 use crate::shared::Shared;
 use crate::worker::Worker;
@@ -31,11 +30,11 @@ impl Worker {
 
     /// A step that only its own state decides and sees.
     pub(crate) fn local(&mut self, shared: &Shared<'_>)
-        requires at { IsAt (run_of shared.now.program.now shared.now.schedule.now shared.now.input.now) shared.now.words.table.shared.table_id 0 self.old }
+        requires at { IsAt (run_in shared.now) (table_in shared.now) 0 self.old }
         requires left { 0 < self.old.left }
         requires turn { self.old.done < length self.old.turns.items }
         requires next { next shared.now.program.now self.old.fiber ≡ actions.Local }
-        ensures at { IsAt (run_of shared.now.program.now shared.now.schedule.now shared.now.input.now) shared.now.words.table.shared.table_id 0 self.new }
+        ensures at { IsAt (run_in shared.now) (table_in shared.now) 0 self.new }
         ensures took { TookOne self.old self.new }
     {
         self.resume(shared.program, 0);
@@ -43,11 +42,11 @@ impl Worker {
 
     /// Reads the input's number at an index.
     pub(crate) fn read(&mut self, shared: &Shared<'_>, index: i64)
-        requires at { IsAt (run_of shared.now.program.now shared.now.schedule.now shared.now.input.now) shared.now.words.table.shared.table_id 0 self.old }
+        requires at { IsAt (run_in shared.now) (table_in shared.now) 0 self.old }
         requires left { 0 < self.old.left }
         requires turn { self.old.done < length self.old.turns.items }
         requires next { next shared.now.program.now self.old.fiber ≡ actions.In index }
-        ensures at { IsAt (run_of shared.now.program.now shared.now.schedule.now shared.now.input.now) shared.now.words.table.shared.table_id 0 self.new }
+        ensures at { IsAt (run_in shared.now) (table_in shared.now) 0 self.new }
         ensures took { TookOne self.old self.new }
     {
         let number = number_at(shared.input, index);
@@ -56,11 +55,11 @@ impl Worker {
 
     /// Reads how many numbers the input has.
     pub(crate) fn count_input(&mut self, shared: &Shared<'_>)
-        requires at { IsAt (run_of shared.now.program.now shared.now.schedule.now shared.now.input.now) shared.now.words.table.shared.table_id 0 self.old }
+        requires at { IsAt (run_in shared.now) (table_in shared.now) 0 self.old }
         requires left { 0 < self.old.left }
         requires turn { self.old.done < length self.old.turns.items }
         requires next { next shared.now.program.now self.old.fiber ≡ actions.InLen }
-        ensures at { IsAt (run_of shared.now.program.now shared.now.schedule.now shared.now.input.now) shared.now.words.table.shared.table_id 0 self.new }
+        ensures at { IsAt (run_in shared.now) (table_in shared.now) 0 self.new }
         ensures took { TookOne self.old self.new }
     {
         self.resume(shared.program, shared.input.len() as u64);
@@ -68,12 +67,12 @@ impl Worker {
 
     /// A plain load.
     pub(crate) fn load(&mut self, shared: &Shared<'_>, at: Range)
-        requires at { IsAt (run_of shared.now.program.now shared.now.schedule.now shared.now.input.now) shared.now.words.table.shared.table_id 0 self.old }
+        requires at { IsAt (run_in shared.now) (table_in shared.now) 0 self.old }
         requires left { 0 < self.old.left }
         requires turn { self.old.done < length self.old.turns.items }
         requires next { next shared.now.program.now self.old.fiber ≡ actions.Load at }
         requires plain { is_gated shared.now.schedule.now.gated (id_of self.old.fiber) ≡ false }
-        ensures at { IsAt (run_of shared.now.program.now shared.now.schedule.now shared.now.input.now) shared.now.words.table.shared.table_id 0 self.new }
+        ensures at { IsAt (run_in shared.now) (table_in shared.now) 0 self.new }
         ensures took { TookOne self.old self.new }
     {
         let number = accesses::load(&shared.words, &mut self.seat, at);
@@ -82,14 +81,15 @@ impl Worker {
 
     /// A plain store.
     pub(crate) fn store(&mut self, shared: &Shared<'_>, at: Range, number: u64)
-        requires at { IsAt (run_of shared.now.program.now shared.now.schedule.now shared.now.input.now) shared.now.words.table.shared.table_id 0 self.old }
+        requires at { IsAt (run_in shared.now) (table_in shared.now) 0 self.old }
         requires left { 0 < self.old.left }
         requires turn { self.old.done < length self.old.turns.items }
         requires next { next shared.now.program.now self.old.fiber ≡ actions.Store at number }
         requires plain { is_gated shared.now.schedule.now.gated (id_of self.old.fiber) ≡ false }
-        ensures at { IsAt (run_of shared.now.program.now shared.now.schedule.now shared.now.input.now) shared.now.words.table.shared.table_id 0 self.new }
+        ensures at { IsAt (run_in shared.now) (table_in shared.now) 0 self.new }
         ensures took { TookOne self.old self.new }
     {
+        self.pages.mark(at);
         accesses::store(&shared.words, &mut self.seat, at, number);
         self.resume(shared.program, 0);
     }

@@ -1,30 +1,49 @@
 //! The turns of a worker: it waits until its next turn is due, does what the turn reads and leaves, and ends it.
 
-ghost use Rattle.std.specs.Prelude.{◌≡◌, ◌++◌, ◌<◌, ◌≤◌, [], length, true, false, vec_capacity};
-ghost use Rattle.std.specs.List.{cons_option};
-ghost use Rattle.pg_ir.specs.declared.request.Request.TheVariants as requests;
+ghost use Rattle.std.specs.Prelude.{◌≡◌, ◌<◌, length, true, false, vec_capacity};
 ghost use Rattle.pg_run_thread.specs.Step.{next};
-ghost use Rattle.pg_run_thread.specs.declared.action.Action.TheVariants as actions;
 ghost use Rattle.pg_law_course.specs.Prints.{number_printed};
-ghost use Rattle.pg_seats.specs.Plan.{run_of};
 ghost use Rattle.pg_seats.specs.Views.{may_advance};
-ghost use Rattle.pg_worker.specs.Standing.{HasToWait, IsAnswered, IsAt, IsDue, TookTurn, WentOn, stands_at_event, waits_there};
+ghost use Rattle.pg_worker.specs.Standing.{HasKept, HasToWait, IsAnswered, IsAt, IsDue, TookTurn, WentOn, place_stored, run_in, stands_at_event, table_in, waits_there};
 
 use crate::awaits::await_turn;
 use crate::shared::Shared;
 use crate::worker::Worker;
-use pg_ir::{Request, ThreadNo};
+use pg_ir::Request;
 use pg_num::Place as Range;
-use pg_seats::{accesses, turns};
+use pg_run_thread::Action;
+use pg_seats::turns;
+
+/// The number that an action prints, if it prints one.
+fn printed_by(action: Action) -> Option<u64>
+    ensures { result ≡ number_printed action }
+{
+    match action {
+        Action::Event(Request::Out { value } | Request::Putchar { value }) => Some(value),
+        _ => None,
+    }
+}
+
+/// Where an action stores, if it stores.
+fn stored_by(action: Action) -> Option<Range>
+    ensures { result ≡ place_stored action }
+{
+    match action {
+        Action::Store(at, _) => Some(at),
+        Action::Event(Request::Create { at, .. }) => Some(at),
+        Action::Event(Request::Join { at, .. }) => at,
+        _ => None,
+    }
+}
 
 impl Worker {
     /// Waits for its next turn, and reads the turn word through its seat. Says whether the turn is due.
     pub(crate) fn comes(&mut self, shared: &Shared<'_>) -> bool
-        requires at { IsAt (run_of shared.now.program.now shared.now.schedule.now shared.now.input.now) shared.now.words.table.shared.table_id 0 self.old }
+        requires at { IsAt (run_in shared.now) (table_in shared.now) 0 self.old }
         requires left { 0 < self.old.left }
         requires turn { self.old.done < length self.old.turns.items }
-        requires waits { waits_there (run_of shared.now.program.now shared.now.schedule.now shared.now.input.now) self.old.fiber ≡ true }
-        ensures at { IsAt (run_of shared.now.program.now shared.now.schedule.now shared.now.input.now) shared.now.words.table.shared.table_id 0 self.new }
+        requires waits { waits_there (run_in shared.now) self.old.fiber ≡ true }
+        ensures at { IsAt (run_in shared.now) (table_in shared.now) 0 self.new }
         ensures same { self.new ≡ record self.old { seat = self.new.seat } }
         ensures went { WentOn self.old self.new }
         ensures due { result ≡ true → IsDue self.new }
@@ -36,34 +55,38 @@ impl Worker {
         found == turn
     }
 
-    /// Keeps the number that a turn prints, if it prints one.
-    fn print(&mut self, printed: Option<u64>)
+    /// Keeps what a turn prints, the value that it leaves, and where it stores.
+    fn keep(&mut self, action: Action)
         requires room { length self.old.prints.items < vec_capacity self.old.prints }
-        ensures items { self.new.prints.items ≡ self.old.prints.items ++ cons_option printed [] }
-        ensures room { vec_capacity self.old.prints ≤ vec_capacity self.new.prints }
-        ensures same { self.new ≡ record self.old { prints = self.new.prints } }
+        ensures { HasKept action self.old self.new }
     {
-        if let Some(number) = printed {
+        if let Some(number) = printed_by(action) {
             if let Err(_) = self.prints.push(number) {
                 unreachable!();
             }
         }
+        if let Some(at) = stored_by(action) {
+            self.pages.mark(at);
+        }
+        if let Action::Event(Request::Exit { value, .. }) = action {
+            self.value = value;
+        }
     }
 
-    /// Ends the turn that is due, with the answer to it and the number that it prints, if it prints one.
-    pub(crate) fn end_turn(&mut self, shared: &Shared<'_>, answer: u64, printed: Option<u64>)
-        requires at { IsAnswered (run_of shared.now.program.now shared.now.schedule.now shared.now.input.now) shared.now.words.table.shared.table_id answer self.old }
+    /// Ends the turn that is due, with the answer to its action.
+    pub(crate) fn end_turn(&mut self, shared: &Shared<'_>, action: Action, answer: u64)
+        requires at { IsAnswered (run_in shared.now) (table_in shared.now) answer self.old }
         requires left { 0 < self.old.left }
         requires turn { self.old.done < length self.old.turns.items }
-        requires event { stands_at_event (run_of shared.now.program.now shared.now.schedule.now shared.now.input.now) self.old.fiber ≡ true }
+        requires event { stands_at_event (run_in shared.now) self.old.fiber ≡ true }
         requires due { IsDue self.old }
         requires parts { may_advance self.old.seat.me.0 ≡ true }
-        requires printed { printed ≡ number_printed (next shared.now.program.now self.old.fiber) }
-        ensures at { IsAt (run_of shared.now.program.now shared.now.schedule.now shared.now.input.now) shared.now.words.table.shared.table_id 0 self.new }
+        requires next { next shared.now.program.now self.old.fiber ≡ action }
+        ensures at { IsAt (run_in shared.now) (table_in shared.now) 0 self.new }
         ensures took { TookTurn self.old self.new }
     {
         let _turn = self.next_turn();
-        self.print(printed);
+        self.keep(action);
         turns::advance(&shared.words, &mut self.seat);
         self.done += 1;
         self.resume(shared.program, answer);

@@ -1,7 +1,7 @@
 use Rattle.std.proofs.Common.{◌∙◌, ◌+◌, ◌++◌, [], ap, refl, subst, sym}
 use Rattle.std.specs.List.{cons_option}
 use Rattle.pg_seats.specs.Views.{IsNow, advanced}
-use Rattle.pg_seats.specs.Plan.{run_of}
+use Rattle.pg_worker.specs.Standing.{run_in, table_in}
 use Rattle.pg_worker.specs.declared.worker.Worker.{Worker}
 use Rattle.pg_worker.proofs.DueTurns.{turned_at, turned_took}
 use Rattle.pg_worker.proofs.worker.Worker.end_turn.Goals as goal
@@ -9,7 +9,7 @@ use Rattle.pg_worker.proofs.worker.Worker.end_turn.Goals as goal
 pub returns-clause-at : goal.returns-clause-at
 returns-clause-at c =
     let same = c.print.ensures.same in
-    turned_at (run_of c.args.shared.now.program.now c.args.shared.now.schedule.now c.args.shared.now.input.now) c.args.shared.now.words.table.shared.table_id c.requires.at.parts
+    turned_at (run_in c.args.shared.now) (table_in c.args.shared.now) c.requires.at.parts
     c.args.self.now c.requires.at.at c.next_turn-turn.result c.next_turn-turn.ensures c.requires.event c.requires.due
     (record c.print.new.self { seat = c.advance.new.seat; done = c.print.new.self.done + 1 }) c.resume.new.self c.args.answer c.requires.at.answered
     (ap (λ (w : Worker). w.fiber) same) (ap (λ (w : Worker). w.thread) same) (ap (λ (w : Worker). w.turns) same) (ap (λ (w : Worker). w.done + 1) same) (ap (λ (w : Worker). w.left) same)
@@ -21,7 +21,7 @@ returns-clause-at c =
 pub returns-clause-took : goal.returns-clause-took
 returns-clause-took c =
     let same = c.print.ensures.same in
-    turned_took (run_of c.args.shared.now.program.now c.args.shared.now.schedule.now c.args.shared.now.input.now) c.args.shared.now.words.table.shared.table_id c.requires.at.parts
+    turned_took (run_in c.args.shared.now) (table_in c.args.shared.now) c.requires.at.parts
     c.args.self.now c.requires.at.at c.next_turn-turn.result c.next_turn-turn.ensures c.requires.event c.requires.due
     (record c.print.new.self { seat = c.advance.new.seat; done = c.print.new.self.done + 1 }) c.resume.new.self c.args.answer c.requires.at.answered
     (ap (λ (w : Worker). w.fiber) same) (ap (λ (w : Worker). w.thread) same) (ap (λ (w : Worker). w.turns) same) (ap (λ (w : Worker). w.done + 1) same) (ap (λ (w : Worker). w.left) same)

@@ -1,18 +1,18 @@
 use Rattle.std.proofs.Common.{◌∙◌, ap, refl}
-use Rattle.pg_seats.specs.Plan.{run_of}
+use Rattle.pg_worker.specs.Standing.{run_in, table_in}
 use Rattle.pg_worker.proofs.PlainSteps.{resumed_of, store_at, store_may, store_small}
 use Rattle.pg_worker.proofs.worker.Worker.store.Goals as goal
 
 pub store-requires-clause-small : goal.store-requires-clause-small
-store-requires-clause-small c = store_small (run_of c.args.shared.now.program.now c.args.shared.now.schedule.now c.args.shared.now.input.now) c.args.shared.now.words.table.shared.table_id
+store-requires-clause-small c = store_small (run_in c.args.shared.now) (table_in c.args.shared.now)
     c.args.self.now c.requires.at c.requires.left c.requires.turn c.args.at c.args.number c.requires.next c.requires.plain
 
 pub store-requires-clause-next : goal.store-requires-clause-next
-store-requires-clause-next c = store_may (run_of c.args.shared.now.program.now c.args.shared.now.schedule.now c.args.shared.now.input.now) c.args.shared.now.words.table.shared.table_id
+store-requires-clause-next c = store_may (run_in c.args.shared.now) (table_in c.args.shared.now)
     c.args.self.now c.requires.at c.requires.left c.requires.turn c.args.at c.args.number c.requires.next c.requires.plain
 
 pub returns-clause-at : goal.returns-clause-at
-returns-clause-at c = store_at (run_of c.args.shared.now.program.now c.args.shared.now.schedule.now c.args.shared.now.input.now) c.args.shared.now.words.table.shared.table_id
+returns-clause-at c = store_at (run_in c.args.shared.now) (table_in c.args.shared.now)
     c.args.self.now c.requires.at c.requires.left c.requires.turn c.args.at c.args.number c.requires.next c.requires.plain c.resume.new.self
     (resumed_of c.args.shared.now.program.now 0 c.args.self.now (record c.args.self.now { seat = c.store.new.seat }) c.resume.new.self refl c.resume.ensures.resumed)
     (ap (λ s. s.table_id) c.resume.ensures.seat ∙ c.store.ensures.own.0) (ap (λ s. s.me) c.resume.ensures.seat ∙ c.store.ensures.view)
