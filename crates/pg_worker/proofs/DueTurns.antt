@@ -5,6 +5,7 @@ use Rattle.std.specs.List.{cons_option}
 use Rattle.std.proofs.lemmas.Bool.{and_from, and_parts, cases_lt, eq-eqb, eqb-true, eqb-false, leb-true}
 use Rattle.std.proofs.lemmas.Option.{slice_get_within}
 use Rattle.atomic_table.specs.Seated.{TableId}
+use Rattle.pg_num.specs.Places.{ByteRange, IsPlace}
 use Rattle.pg_num.specs.declared.limits.TheConstants.{GUIDED_STEP_LIMIT}
 use Rattle.pg_ir.specs.declared.ids.InstrId.{InstrId}
 use Rattle.pg_ir.specs.Program.{NumberedProgram}
@@ -13,7 +14,7 @@ use Rattle.pg_run_thread.specs.Step.{after, next}
 use Rattle.pg_run_thread.specs.Told.{id_of}
 use Rattle.pg_run_thread.specs.declared.action.Action.{Action}
 use Rattle.pg_run_thread.specs.declared.action.Action.TheVariants as actions
-use Rattle.pg_law_threads.specs.Effects.{deeds}
+use Rattle.pg_law_threads.specs.Effects.{deeds, or_old}
 use Rattle.pg_law_threads.specs.Intervals.{Timed, timed, turns_done}
 use Rattle.pg_law_runs.specs.Deeds.{Did, goes_on, is_event_at, owners_of}
 use Rattle.pg_law_course.specs.Course.{course, local_behind, next_turn, shared_in, state_at, turns_before, turns_in, turns_of}
@@ -34,7 +35,9 @@ use Rattle.pg_seats.specs.declared.run.View.TheVariants as views
 use Rattle.pg_seats.specs.Plan.{IsEnforced, own_of, plan_of}
 use Rattle.pg_seats.specs.Views.{IsAhead, IsNow, advanced, fits, is_due, is_turn, looked, next_of, seen_of}
 use Rattle.pg_worker.specs.declared.worker.Worker.{Worker}
-use Rattle.pg_worker.specs.Standing.{HasToWait, IsAt, IsDue, IsResumed, IsSeatAt, TookOne, TookTurn, WentOn, answer_at, is_end, is_now, looks_of, next_turn_of, stands_at_event, waits_there}
+use Rattle.pg_worker.specs.Pages.{is_marked, page_of}
+use Rattle.pg_worker.specs.Standing.{HasKept, HasMarks, HasToWait, IsAt, IsDue, IsResumed, IsSeatAt, TookOne, TookTurn, WentOn, answer_at, is_end, is_now, looks_of, next_turn_of, place_stored, stands_at_event, value_left, waits_there}
+use Rattle.pg_worker.proofs.StepLeaves.{marks_more, value_more}
 use Rattle.pg_worker.proofs.NextSteps.{HasStep, at_step, inside, not_both}
 use Rattle.pg_worker.proofs.PlainSteps.{its_next}
 
@@ -192,6 +195,8 @@ module _ (r : Run) (table : TableId) (a b : Worker) (at : IsAt r table 0 a) (few
     prints = at.prints;
     few = at.few;
     room = at.room;
+    value = at.value;
+    marked = at.marked;
   }
 
   pub looked_at : IsAt r table 0 b
@@ -222,6 +227,29 @@ module _ (r : Run) (table : TableId) (a b : Worker) (at : IsAt r table 0 a) (few
     seen = subst (λ m. seen_of a.seat.me.0 ≤ seen_of m.0) (sym view_is) low;
     looks = subst (λ m. looks_of a.seat.me.0 ≤ looks_of m.0) (sym view_is) (subst (λ m. looks_of m.0 ≤ suc at.standing.looks) (sym at.view) (omega arith));
   }
+
+-- ---- what a turn leaves at the worker
+
+pub kept_of : (action : Action) (a x y b : Worker) → x ≡ record a { prints = x.prints } → y ≡ record x { pages = y.pages } → b ≡ record y { value = b.value }
+    → x.prints.items ≡ a.prints.items ++ cons_option (number_printed action) [] → vec_capacity a.prints ≤ vec_capacity x.prints
+    → ((q : ByteRange) → place_stored action ≡ Some q → IsPlace q × (is_marked y.pages.words.items (page_of q.start) ≡ true))
+    → ((page : ℕ) → is_marked x.pages.words.items page ≡ true → is_marked y.pages.words.items page ≡ true)
+    → b.value ≡ or_old (value_left action) y.value → HasKept action a b
+kept_of action a x y b ex ey eb items room stored marked value = record {
+  prints = ap (λ v. v.items) prints ∙ items;
+  room = subst (λ v. vec_capacity a.prints ≤ vec_capacity v) (sym prints) room;
+  value = value ∙ ap (or_old (value_left action)) (ap (λ (w : Worker). w.value) ey ∙ ap (λ (w : Worker). w.value) ex);
+  stored = λ q e. (let s = stored q e in (s.0, ap (λ p. is_marked p.words.items (page_of q.start)) pages ∙ s.1));
+  marked = λ page m. ap (λ p. is_marked p.words.items page) pages ∙ marked page (ap (λ (w : Worker). is_marked w.pages.words.items page) ex ∙ m);
+  rest = eb ∙ ap (λ (w : Worker). record w { value = b.value }) (ey ∙ ap (λ (w : Worker). record w { pages = y.pages }) ex)
+      ∙ ap (λ v. record a { prints = v; value = b.value; pages = y.pages }) (sym prints) ∙ ap (λ v. record a { prints = b.prints; value = b.value; pages = v }) (sym pages);
+}
+  where
+    pages : b.pages ≡ y.pages
+    pages = ap (λ (w : Worker). w.pages) eb
+
+    prints : b.prints ≡ x.prints
+    prints = ap (λ (w : Worker). w.prints) eb ∙ ap (λ (w : Worker). w.prints) ey
 
 -- ---- the end of a turn
 
@@ -276,22 +304,50 @@ module _ (r : Run) (table : TableId) (parts : ℕ) (a : Worker) (at : IsAt r tab
       let k = (and_parts (deeds.is_event due_step.step) _ (ap (fits (is_turn n)) (sym due_there) ∙ e)).1 in
       sym h ∙ eqb-true _ n k
 
-  -- m is the worker once its seat has ended the turn, and b is m behind the step of its own state
-  module _ (m b : Worker) (answer : ℕ) (answered : answer ≡ answer_at r a.thread.0 at.taken a.fiber) (fiber : m.fiber ≡ a.fiber) (thread : m.thread ≡ a.thread) (turns : m.turns ≡ a.turns)
-      (done : m.done ≡ suc a.done) (steps : m.left ≡ a.left) (prints : m.prints.items ≡ a.prints.items ++ cons_option (number_printed (next r.program a.fiber)) [])
-      (room : vec_capacity a.prints ≤ vec_capacity m.prints) (own : m.seat.table_id ≡ a.seat.table_id) (n : ℕ) (view : m.seat.me ≡ (advanced a.seat.me.0 n, a.seat.me.1))
-      (now : IsNow a.seat.me.0 n) (h : IsResumed r.program answer m b) (seat : b.seat ≡ m.seat) where
+  -- c is the worker with what the turn leaves kept, m is c once its seat has ended the turn, and b is m behind the step of its own state
+  module _ (c m b : Worker) (kept : HasKept (next r.program a.fiber) a c) (same : m ≡ record c { seat = m.seat; done = c.done + 1 }) (answer : ℕ) (answered : answer ≡ answer_at r a.thread.0 at.taken a.fiber)
+      (own : m.seat.table_id ≡ c.seat.table_id) (n : ℕ) (view : m.seat.me ≡ (advanced c.seat.me.0 n, c.seat.me.1)) (now : IsNow c.seat.me.0 n) (h : IsResumed r.program answer m b) (seat : b.seat ≡ m.seat) where
+    seat_same : c.seat ≡ a.seat
+    seat_same = ap (λ (w : Worker). w.seat) kept.rest
+
+    fiber : m.fiber ≡ a.fiber
+    fiber = ap (λ (w : Worker). w.fiber) same ∙ ap (λ (w : Worker). w.fiber) kept.rest
+
+    thread : m.thread ≡ a.thread
+    thread = ap (λ (w : Worker). w.thread) same ∙ ap (λ (w : Worker). w.thread) kept.rest
+
+    turns : m.turns ≡ a.turns
+    turns = ap (λ (w : Worker). w.turns) same ∙ ap (λ (w : Worker). w.turns) kept.rest
+
+    done : m.done ≡ suc a.done
+    done = (let x : m.done ≡ c.done + 1 = ap (λ (w : Worker). w.done) same in let y : c.done ≡ a.done = ap (λ (w : Worker). w.done) kept.rest in omega (arith, x, y))
+
+    steps : m.left ≡ a.left
+    steps = ap (λ (w : Worker). w.left) same ∙ ap (λ (w : Worker). w.left) kept.rest
+
+    prints : m.prints.items ≡ a.prints.items ++ cons_option (number_printed (next r.program a.fiber)) []
+    prints = ap (λ (w : Worker). w.prints.items) same ∙ kept.prints
+
+    room : vec_capacity a.prints ≤ vec_capacity m.prints
+    room = (let x = ap (λ (w : Worker). vec_capacity w.prints) same in let y = kept.room in omega (arith, x, y))
+
+    value : b.value ≡ or_old (value_left (next r.program a.fiber)) a.value
+    value = h.value ∙ ap (λ (w : Worker). w.value) same ∙ kept.value
+
+    pages : b.pages ≡ c.pages
+    pages = h.pages ∙ ap (λ (w : Worker). w.pages) same
+
     abbrev behind_it : Standing
     behind_it = record { run = at.standing.run; thread = at.standing.thread; done = suc at.standing.done; due = false; parts = 0; seen = suc n; looks = at.standing.looks }
 
     now_standing : IsNow (views.Worker at.standing) n
-    now_standing = subst (λ v. IsNow v.0 n) at.view now
+    now_standing = subst (λ v. IsNow v.0 n) (ap (λ s. s.me) seat_same ∙ at.view) now
 
     thread_is : a.thread.0 ≡ b.thread.0
     thread_is = ap (λ u. u.0) (sym (h.thread ∙ thread))
 
     ended_view : b.seat.me ≡ (views.Worker behind_it, [])
-    ended_view = ap (λ s. s.me) seat ∙ view ∙ ap (λ v. (advanced v.0 n, v.1)) at.view
+    ended_view = ap (λ s. s.me) seat ∙ view ∙ ap (λ v. (advanced v.0 n, v.1)) (ap (λ s. s.me) seat_same ∙ at.view)
 
     turns_are : b.turns.items ≡ a.turns.items
     turns_are = ap (λ v. v.items) (h.turns ∙ turns)
@@ -314,7 +370,7 @@ module _ (r : Run) (table : TableId) (parts : ℕ) (a : Worker) (at : IsAt r tab
       enforced = at.enforced;
       taken = suc at.taken;
       standing = behind_it;
-      own = ap (λ s. s.table_id) seat ∙ own ∙ at.own;
+      own = ap (λ s. s.table_id) seat ∙ own ∙ ap (λ s. s.table_id) seat_same ∙ at.own;
       view = ended_view;
       seat = record {
         run_is = at.seat.run_is;
@@ -341,6 +397,9 @@ module _ (r : Run) (table : TableId) (parts : ℕ) (a : Worker) (at : IsAt r tab
       few = subst (λ (xs : List ℕ). length xs ≤ b.done) (sym prints_are) (subst (λ (k : ℕ). length (a.prints.items ++ cons_option (number_printed (next r.program a.fiber)) []) ≤ k) (sym done_is)
           (few_numbers (number_printed (next r.program a.fiber)) a.prints.items a.done at.few));
       room = room_is;
+      value = λ zero. value_more r at.enforced a.thread.0 at.taken a.fiber due_step at.local a.value b.value at.value value (thread_is ∙ zero);
+      marked = subst (λ (u : ℕ). HasMarks r u (suc at.taken) b.pages.words.items) thread_is (subst (λ p. HasMarks r a.thread.0 (suc at.taken) p.words.items) (sym pages)
+          (marks_more r at.enforced a.thread.0 at.taken a.fiber due_step at.local a.pages.words.items c.pages.words.items at.marked kept.marked kept.stored));
     }
       where
         prints_are : b.prints.items ≡ a.prints.items ++ cons_option (number_printed (next r.program a.fiber)) []

@@ -1,3 +1,6 @@
+mod NamedStarts
+mod MainCreates
+mod StepLeaves
 mod NextSteps
 mod PlainSteps
 mod DueTurns

@@ -27,13 +27,12 @@ use Rattle.pg_seats.specs.declared.run.Standing.{Standing}
 use Rattle.pg_seats.specs.declared.run.View.TheVariants as views
 use Rattle.pg_seats.specs.Plan.{IsEnforced}
 use Rattle.pg_worker.specs.declared.worker.Worker.{Worker}
-use Rattle.pg_worker.specs.Standing.{IsAt, IsResumed, IsSeatAt, answer_at}
-
--- step k of thread t, before which the thread's local state is l
-pub record HasStep (r : Run) (t k : ℕ) (l : LocalState) : Type 0 where
-  pub step : Did
-  pub there : slice_get (course r.program r.input r.schedule t) k ≡ Some step
-  pub of : IsStepOf r.program r.input r.schedule t k l step
+use Rattle.pg_num.specs.Places.{ByteRange, IsPlace}
+use Rattle.pg_law_threads.specs.Effects.{or_old}
+use Rattle.pg_worker.specs.Pages.{is_marked, page_of}
+use Rattle.pg_worker.specs.Standing.{HasMarks, IsAt, IsResumed, IsSeatAt, answer_at, place_stored, value_left}
+pub use Rattle.pg_worker.proofs.StepLeaves.{HasStep}
+use Rattle.pg_worker.proofs.StepLeaves.{marks_more, value_more}
 
 pub inside : (p : NumberedProgram) (input : List ℤ) (s : Schedule) (t k : ℕ) (l : LocalState) → state_at p input s t k ≡ Some l → k ≤ length (course p input s t)
 inside p input s t zero l e = omega arith
@@ -90,10 +89,11 @@ no_number xs None e = nothing xs
 no_number xs (Some n) e = absurd cc
 
 module _ (r : Run) (table : TableId) (a b : Worker) (at : IsAt r table 0 a) (n : HasStep r a.thread.0 at.taken a.fiber) where
-  pub still_at : (answer : ℕ) → deeds.is_event n.step ≡ false → number_printed (next r.program a.fiber) ≡ None → answer ≡ answer_at r a.thread.0 at.taken a.fiber
+  pub still_at : (answer : ℕ) → deeds.is_event n.step ≡ false → number_printed (next r.program a.fiber) ≡ None → value_left (next r.program a.fiber) ≡ None
+      → ((q : ByteRange) → place_stored (next r.program a.fiber) ≡ Some q → IsPlace q × (is_marked a.pages.words.items (page_of q.start) ≡ true)) → answer ≡ answer_at r a.thread.0 at.taken a.fiber
       → IsResumed r.program answer a b → b.seat.table_id ≡ table → (w : Standing) → b.seat.me ≡ (views.Worker w, [])
       → IsSeatAt r a.thread.0 (suc at.taken) 0 w → w.seen ≡ at.standing.seen → IsAt r table 0 b
-  still_at answer plain silent answered h own w view seat seen = record {
+  still_at answer plain silent stays stored answered h own w view seat seen = record {
     enforced = at.enforced;
     taken = suc at.taken;
     standing = w;
@@ -115,6 +115,9 @@ module _ (r : Run) (table : TableId) (a b : Worker) (at : IsAt r table 0 a) (n :
         ∙ ap (λ (u : ℕ). numbers_printed r.program r.input r.schedule u (suc at.taken)) thread;
     few = subst (λ (m : ℕ). length b.prints.items ≤ m) (sym h.done) (subst (λ v. length v.items ≤ a.done) (sym h.prints) at.few);
     room = subst (λ v. length v.items ≤ vec_capacity b.prints) (sym h.turns) (subst (λ v. length a.turns.items ≤ vec_capacity v) (sym h.prints) at.room);
+    value = λ zero. h.value ∙ value_more r at.enforced a.thread.0 at.taken a.fiber n at.local a.value a.value at.value (ap (λ (o : Option ℕ). or_old o a.value) (sym stays)) (thread ∙ zero);
+    marked = subst (λ (u : ℕ). HasMarks r u (suc at.taken) b.pages.words.items) thread (subst (λ p. HasMarks r a.thread.0 (suc at.taken) p.words.items) (sym h.pages)
+        (marks_more r at.enforced a.thread.0 at.taken a.fiber n at.local a.pages.words.items a.pages.words.items at.marked (λ page m. m) stored));
   }
     where
       thread : a.thread.0 ≡ b.thread.0

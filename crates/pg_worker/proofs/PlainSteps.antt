@@ -4,7 +4,7 @@ use Rattle.std.specs.Prelude.{◌==◌, ◌&&◌, not, slice_get, if◌then◌el
 use Rattle.std.proofs.lemmas.Bool.{eq-eqb}
 use Rattle.atomic_table.specs.Seated.{TableId}
 use Rattle.pg_num.specs.Inputs.{input_at}
-use Rattle.pg_num.specs.Places.{ByteRange}
+use Rattle.pg_num.specs.Places.{ByteRange, IsPlace}
 use Rattle.pg_num.specs.declared.limits.TheConstants.{GUIDED_STEP_LIMIT}
 use Rattle.pg_ir.specs.Program.{NumberedProgram}
 use Rattle.pg_run_memory.specs.Bytes.{number_of}
@@ -36,7 +36,8 @@ use Rattle.pg_seats.specs.declared.run.View.TheVariants as views
 use Rattle.pg_seats.specs.Plan.{IsEnforced, cells_there, own_of}
 use Rattle.pg_seats.specs.Views.{fits, has_number, is_plain, may_load, may_store, next_of, number_there, reads_at, seen_of, went_on, writes_at}
 use Rattle.pg_worker.specs.declared.worker.Worker.{Worker}
-use Rattle.pg_worker.specs.Standing.{IsAt, IsResumed, IsSeatAt, TookOne, WentOn, answer_at, looks_of}
+use Rattle.pg_worker.specs.Pages.{is_marked, page_of}
+use Rattle.pg_worker.specs.Standing.{IsAt, IsResumed, IsSeatAt, TookOne, WentOn, answer_at, looks_of, place_stored, value_left}
 use Rattle.pg_worker.proofs.NextSteps.{HasStep, has_step, still_at}
 
 -- ---- what an access tells
@@ -63,6 +64,9 @@ tells_write q n (Some x) e =
   where
     some_is : (x y : Accessed) → Some x ≡ Some y → x ≡ y
     some_is x y k = cc
+
+same_place : (q z : ByteRange) → Some q ≡ Some z → q ≡ z
+same_place q z e = cc
 
 -- ---- the next shared step of a seat
 
@@ -111,27 +115,33 @@ module _ (r : Run) (table : TableId) (a : Worker) (at : IsAt r table 0 a) (few :
         ∙ ap (λ (e : Bool). if e then suc (shared_in r.program r.input r.schedule a.thread.0 at.taken) else shared_in r.program r.input r.schedule a.thread.0 at.taken) (n.of.shared ∙ shared));
   }
 
+  no_place : place_stored (next r.program a.fiber) ≡ None → (q : ByteRange) → place_stored (next r.program a.fiber) ≡ Some q → IsPlace q × (is_marked a.pages.words.items (page_of q.start) ≡ true)
+  no_place none q e = absurd (not_some q (sym none ∙ e))
+    where
+      not_some : (q : ByteRange) → Path (Option ByteRange) None (Some q) → ⊥
+      not_some q k = cc
+
   -- ---- steps that only the thread sees
 
   pub own_at : (action : Action) → next r.program a.fiber ≡ action → goes_on action ≡ true → is_event_at r.schedule.gated (id_of a.fiber) action ≡ false
-      → is_shared_action action ≡ false → number_printed action ≡ None → (b : Worker) (answer : ℕ)
+      → is_shared_action action ≡ false → number_printed action ≡ None → value_left action ≡ None → place_stored action ≡ None → (b : Worker) (answer : ℕ)
       → ((n : HasStep r a.thread.0 at.taken a.fiber) → answer ≡ answer_at r a.thread.0 at.taken a.fiber) → IsResumed r.program answer a b → b.seat ≡ a.seat → IsAt r table 0 b
-  own_at action e goes plain own silent b answer answered h seat =
+  own_at action e goes plain own silent stays nowhere b answer answered h seat =
       let n = step_of (ap goes_on e ∙ goes) (ap (is_event_at r.schedule.gated (id_of a.fiber)) e ∙ plain) in
-      still_at r table a b at n answer (n.of.event ∙ ap (is_event_at r.schedule.gated (id_of a.fiber)) e ∙ plain) (ap number_printed e ∙ silent) (answered n) h
+      still_at r table a b at n answer (n.of.event ∙ ap (is_event_at r.schedule.gated (id_of a.fiber)) e ∙ plain) (ap number_printed e ∙ silent) (ap value_left e ∙ stays) (no_place (ap place_stored e ∙ nowhere)) (answered n) h
       (ap (λ s. s.table_id) seat ∙ at.own) at.standing (ap (λ s. s.me) seat ∙ at.view) (stays n (ap is_shared_action e ∙ own)) refl
 
   pub local_at : next r.program a.fiber ≡ actions.Local → (b : Worker) → IsResumed r.program 0 a b → b.seat ≡ a.seat → IsAt r table 0 b
-  local_at e b h seat = own_at actions.Local e refl refl refl refl b 0 (λ n. answer_is e) h seat
+  local_at e b h seat = own_at actions.Local e refl refl refl refl refl refl b 0 (λ n. answer_is e) h seat
     where
       answer_is : next r.program a.fiber ≡ actions.Local → 0 ≡ answer_at r a.thread.0 at.taken a.fiber
       answer_is e = rw e refl
 
   pub read_at : (i : ℤ) → next r.program a.fiber ≡ actions.In i → (b : Worker) → IsResumed r.program (input_at r.input i) a b → b.seat ≡ a.seat → IsAt r table 0 b
-  read_at i e b h seat = own_at (actions.In i) e refl refl refl refl b (input_at r.input i) (λ n. rw e refl) h seat
+  read_at i e b h seat = own_at (actions.In i) e refl refl refl refl refl refl b (input_at r.input i) (λ n. rw e refl) h seat
 
   pub count_at : next r.program a.fiber ≡ actions.InLen → (b : Worker) → IsResumed r.program (length r.input) a b → b.seat ≡ a.seat → IsAt r table 0 b
-  count_at e b h seat = own_at actions.InLen e refl refl refl refl b (length r.input) (λ n. rw e refl) h seat
+  count_at e b h seat = own_at actions.InLen e refl refl refl refl refl refl b (length r.input) (λ n. rw e refl) h seat
 
   -- ---- plain accesses
 
@@ -157,7 +167,7 @@ module _ (r : Run) (table : TableId) (a : Worker) (at : IsAt r table 0 a) (few :
     pub load_at : (b : Worker) (answer : ℕ) → answer ≡ number_there a.seat.me.0 q → IsResumed r.program answer a b → b.seat.table_id ≡ a.seat.table_id
         → b.seat.me ≡ (went_on a.seat.me.0, a.seat.me.1) → IsAt r table 0 b
     load_at b answer found h own view =
-        still_at r table a b at load_step answer load_plain (ap number_printed e)
+        still_at r table a b at load_step answer load_plain (ap number_printed e) (ap value_left e) (no_place (ap place_stored e))
         (found ∙ ap (λ m. number_there m.0 q) at.view ∙ its_number r a.thread.0 at.taken 0 a.fiber load_step at.enforced at.standing at.seat load_shared q ∙ rw e refl) h
         (own ∙ at.own) behind_it (view ∙ ap (λ m. (went_on m.0, m.1)) at.view) (moves load_step (ap is_shared_action e)) refl
 
@@ -184,10 +194,33 @@ module _ (r : Run) (table : TableId) (a : Worker) (at : IsAt r table 0 a) (few :
     pub store_small : m < 2 ^ (8 * q.bytes)
     store_small = subst (ActionFits r.program) e (action_fits r.program a.fiber at.enforced.can.program at.of)
 
-    pub store_at : (b : Worker) → IsResumed r.program 0 a b → b.seat.table_id ≡ a.seat.table_id → b.seat.me ≡ (went_on a.seat.me.0, a.seat.me.1) → IsAt r table 0 b
-    store_at b h own view =
-        still_at r table a b at store_step 0 store_plain (ap number_printed e) (rw e refl) h
+    pub store_at : IsPlace q × (is_marked a.pages.words.items (page_of q.start) ≡ true) → (b : Worker) → IsResumed r.program 0 a b → b.seat.table_id ≡ a.seat.table_id → b.seat.me ≡ (went_on a.seat.me.0, a.seat.me.1) → IsAt r table 0 b
+    store_at stored b h own view =
+        still_at r table a b at store_step 0 store_plain (ap number_printed e) (ap value_left e) (λ z k. subst (λ y. IsPlace y × (is_marked a.pages.words.items (page_of y.start) ≡ true)) (same_place q z (sym (ap place_stored e) ∙ k)) stored) (rw e refl) h
         (own ∙ at.own) behind_it (view ∙ ap (λ s. (went_on s.0, s.1)) at.view) (moves store_step (ap is_shared_action e)) refl
+
+-- more pages are marked
+pub marked_at : (r : Run) (table : TableId) (parts : ℕ) (a m : Worker) (at : IsAt r table parts a) → m ≡ record a { pages = m.pages }
+    → ((page : ℕ) → is_marked a.pages.words.items page ≡ true → is_marked m.pages.words.items page ≡ true) → IsAt r table parts m
+marked_at r table parts a m at same more = subst (IsAt r table parts) (sym same) (record {
+  enforced = at.enforced;
+  taken = at.taken;
+  standing = at.standing;
+  own = at.own;
+  view = at.view;
+  seat = at.seat;
+  local = at.local;
+  of = at.of;
+  steps = at.steps;
+  turns = at.turns;
+  turns_done = at.turns_done;
+  behind = at.behind;
+  prints = at.prints;
+  few = at.few;
+  room = at.room;
+  value = at.value;
+  marked = λ i d b lt there small writes. more (page_of b) (at.marked i d b lt there small writes);
+})
 
 -- ---- what changes
 
@@ -212,17 +245,19 @@ took p answer a b h seat =
 
 same_seen : (v : View) → seen_of v ≤ seen_of (went_on v)
 same_seen (views.Worker w) = omega arith
-same_seen views.Idle = omega arith
+same_seen (views.Idle q) = omega arith
 same_seen (views.Laying q n) = omega arith
-same_seen (views.Pool q n) = omega arith
+same_seen (views.Pool q n m) = omega arith
+same_seen (views.Sweeping q n) = omega arith
 same_seen (views.Note q n) = omega arith
 same_seen views.Spent = omega arith
 
 same_looks : (v : View) → looks_of v ≤ looks_of (went_on v)
 same_looks (views.Worker w) = omega arith
-same_looks views.Idle = omega arith
+same_looks (views.Idle q) = omega arith
 same_looks (views.Laying q n) = omega arith
-same_looks (views.Pool q n) = omega arith
+same_looks (views.Pool q n m) = omega arith
+same_looks (views.Sweeping q n) = omega arith
 same_looks (views.Note q n) = omega arith
 same_looks views.Spent = omega arith
 
@@ -243,4 +278,6 @@ resumed_of p answer a m b same h = record {
   turns = h.turns ∙ ap (λ (w : Worker). w.turns) same;
   done = h.done ∙ ap (λ (w : Worker). w.done) same;
   prints = h.prints ∙ ap (λ (w : Worker). w.prints) same;
+  value = h.value ∙ ap (λ (w : Worker). w.value) same;
+  pages = h.pages ∙ ap (λ (w : Worker). w.pages) same;
 }

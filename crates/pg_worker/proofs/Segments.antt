@@ -88,6 +88,8 @@ same_own r table a l e at = record {
   prints = at.prints;
   few = at.few;
   room = at.room;
+  value = at.value;
+  marked = at.marked;
 }
 
 pub took_own : (a b : Worker) (l : LocalState) → TookOne (record a { fiber = l }) b → TookOne a b
@@ -101,4 +103,4 @@ waits_own a b l h = (
 
 -- a step that was done by its own state alone
 pub done_own : (p : NumberedProgram) (a : Worker) (l : LocalState) (left : ℕ) → l ≡ after p a.fiber 0 → IsOf p l → suc left ≡ a.left → IsResumed p 0 a (record a { fiber = l; left = left })
-done_own p a l left e of n = record { fiber = e; of = of; left = n; thread = refl; turns = refl; done = refl; prints = refl }
+done_own p a l left e of n = record { fiber = e; of = of; left = n; thread = refl; turns = refl; done = refl; prints = refl; value = refl; pages = refl }

@@ -274,6 +274,8 @@ module _ (r : Run) (table : TableId) (parts : ℕ) (a m : Worker) (at : IsAt r t
     prints = at.prints;
     few = at.few;
     room = at.room;
+    value = at.value;
+    marked = at.marked;
   }
 
   turn_same : next_turn_of m ≡ next_turn_of a

@@ -1,22 +1,48 @@
 //! The function with which a thread begins.
 
-ghost use Rattle.std.specs.Prelude.{◌≡◌, Some, find, slice_get};
+ghost use Rattle.std.specs.Prelude.{◌≡◌, ℕ, Some, find, slice_get, true};
 ghost use Rattle.pg_ir.specs.WellFormed.{StartsAs};
-ghost use Rattle.pg_law_course.specs.Threads.{created_by, creates, start_function};
+ghost use Rattle.pg_run_thread.specs.Operands.{operands_of};
+ghost use Rattle.pg_law_course.specs.Threads.{created_by, creates, function_value, start_function};
+ghost use Rattle.pg_worker.specs.Calls.{is_call};
 
 use pg_ir::{Op, Program, ThreadNo, Value};
 use pg_run_trace::{Turn, TurnKind};
 
+/// Whether a turn creates a thread.
+fn creates(thread: ThreadNo, turn: &Turn) -> bool
+    ensures { result ≡ creates thread.0 turn.now }
+{
+    match turn.kind {
+        TurnKind::Create => turn.object == u64::from(thread.0),
+        _ => false,
+    }
+}
+
 /// The first turn that creates a thread.
-fn creating(turns: &[Turn], thread: ThreadNo) -> Option<&Turn>
+fn creating(turns: &[Turn], thread: ThreadNo) -> Option<Turn>
     ensures { result ≡ find (creates thread.0) turns.now }
 {
     for turn in turns {
-        if turn.kind == TurnKind::Create && turn.object == u64::from(thread.0) {
-            return Some(turn);
+        if creates(thread, turn) {
+            return Some(*turn);
         }
     }
     None
+}
+
+/// The function that an operation has as its third operand, as no operation but a create does.
+fn operand(op: &Op) -> Option<u32>
+    requires { (f : ℕ) → function_value (slice_get (operands_of op.now) 2) ≡ Some f → is_call op.now ≡ true }
+    ensures { result ≡ function_value (slice_get (operands_of op.now) 2) }
+{
+    match op {
+        Op::CallLibrary { args, .. } => match args.as_slice().get(2) {
+            Some(Value::Function(f)) => Some(*f),
+            _ => None,
+        },
+        _ => None,
+    }
 }
 
 /// The function that a create turn names at its instruction, or main.
@@ -28,12 +54,9 @@ fn named_by(p: &Program, turn: &Turn) -> u32
     if turn.instr.0 >= p.instr_count() {
         return p.main();
     }
-    match &p.instr(turn.instr).op {
-        Op::CallLibrary { args, .. } => match args.as_slice().get(2) {
-            Some(Value::Function(f)) => *f,
-            _ => p.main(),
-        },
-        _ => p.main(),
+    match operand(&p.instr(turn.instr).op) {
+        Some(f) => f,
+        None => p.main(),
     }
 }
 
@@ -47,7 +70,7 @@ pub(crate) fn start_of(p: &Program, turns: &[Turn], thread: ThreadNo) -> u32
         return p.main();
     }
     match creating(turns, thread) {
-        Some(turn) => named_by(p, turn),
+        Some(turn) => named_by(p, &turn),
         None => p.main(),
     }
 }

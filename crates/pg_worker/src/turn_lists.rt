@@ -16,12 +16,10 @@ pub(crate) fn turns_of(
     ensures { IfOk result (λ v. v.items ≡ turns_of thread.0 turns.now) }
 {
     let mut numbers = Vec::new(alloc);
-    let mut number = 0;
-    for turn in turns {
-        if turn.thread == thread {
-            numbers.push(number)?;
+    for number in 0..turns.len() {
+        if thread.0 == turns[number].thread.0 {
+            numbers.push(number as u64)?;
         }
-        number += 1;
     }
     Ok(numbers)
 }

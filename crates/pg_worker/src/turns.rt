@@ -1,10 +1,14 @@
 //! The turns of a worker: it waits until its next turn is due, does what the turn reads and leaves, and ends it.
 
-ghost use Rattle.std.specs.Prelude.{◌≡◌, ◌<◌, length, true, false, vec_capacity};
+ghost use Rattle.std.specs.Prelude.{◌≡◌, ℕ, ◌++◌, ◌<◌, ◌≤◌, Some, [], length, true, false, vec_capacity};
+ghost use Rattle.std.specs.List.{cons_option};
+ghost use Rattle.pg_num.specs.Places.{ByteRange, IsPlace};
 ghost use Rattle.pg_run_thread.specs.Step.{next};
+ghost use Rattle.pg_law_threads.specs.Effects.{or_old};
 ghost use Rattle.pg_law_course.specs.Prints.{number_printed};
 ghost use Rattle.pg_seats.specs.Views.{may_advance};
-ghost use Rattle.pg_worker.specs.Standing.{HasKept, HasToWait, IsAnswered, IsAt, IsDue, TookTurn, WentOn, place_stored, run_in, stands_at_event, table_in, waits_there};
+ghost use Rattle.pg_worker.specs.Standing.{HasKept, HasToWait, IsAnswered, IsAt, IsDue, TookTurn, WentOn, place_stored, run_in, stands_at_event, table_in, value_left, waits_there};
+ghost use Rattle.pg_worker.specs.Pages.{is_marked, page_of};
 
 use crate::awaits::await_turn;
 use crate::shared::Shared;
@@ -55,22 +59,49 @@ impl Worker {
         found == turn
     }
 
-    /// Keeps what a turn prints, the value that it leaves, and where it stores.
-    fn keep(&mut self, action: Action)
+    /// Keeps the number that a turn prints, if it prints one.
+    fn print(&mut self, printed: Option<u64>)
         requires room { length self.old.prints.items < vec_capacity self.old.prints }
-        ensures { HasKept action self.old self.new }
+        ensures items { self.new.prints.items ≡ self.old.prints.items ++ cons_option printed [] }
+        ensures room { vec_capacity self.old.prints ≤ vec_capacity self.new.prints }
+        ensures same { self.new ≡ record self.old { prints = self.new.prints } }
     {
-        if let Some(number) = printed_by(action) {
+        if let Some(number) = printed {
             if let Err(_) = self.prints.push(number) {
                 unreachable!();
             }
         }
-        if let Some(at) = stored_by(action) {
+    }
+
+    /// Marks the page in which a turn stores, if it stores.
+    fn mark(&mut self, stored: Option<Range>)
+        ensures stored { (q : ByteRange) → stored ≡ Some q → IsPlace q × (is_marked self.new.pages.words.items (page_of q.start) ≡ true) }
+        ensures marked { (page : ℕ) → is_marked self.old.pages.words.items page ≡ true → is_marked self.new.pages.words.items page ≡ true }
+        ensures same { self.new ≡ record self.old { pages = self.new.pages } }
+    {
+        if let Some(at) = stored {
             self.pages.mark(at);
         }
+    }
+
+    /// Keeps the value with which an action ends the thread, if it does.
+    fn leave(&mut self, action: Action)
+        ensures value { self.new.value ≡ or_old (value_left action) self.old.value }
+        ensures same { self.new ≡ record self.old { value = self.new.value } }
+    {
         if let Action::Event(Request::Exit { value, .. }) = action {
             self.value = value;
         }
+    }
+
+    /// Keeps what an action prints, the page in which it stores, and the value that it leaves.
+    fn keep(&mut self, action: Action)
+        requires room { length self.old.prints.items < vec_capacity self.old.prints }
+        ensures { HasKept action self.old self.new }
+    {
+        self.print(printed_by(action));
+        self.mark(stored_by(action));
+        self.leave(action);
     }
 
     /// Ends the turn that is due, with the answer to its action.
