@@ -1,3 +1,4 @@
+mod PageMarks
 mod NamedStarts
 mod MainCreates
 mod StepLeaves

@@ -29,6 +29,10 @@ use Rattle.pg_seats.specs.declared.run.View.TheVariants as views
 use Rattle.pg_seats.specs.Plan.{IsEnforced, run_of}
 use Rattle.pg_seats.specs.Views.{is_due, seen_of}
 use Rattle.pg_worker.specs.declared.shared.Shared.{Shared}
+use Rattle.pg_worker.specs.declared.worker.Paused.{Paused}
+use Rattle.pg_worker.specs.declared.worker.Paused.TheVariants as pauses
+use Rattle.pg_worker.specs.declared.worker.Taken.{Taken}
+use Rattle.pg_worker.specs.declared.worker.Taken.TheVariants as outcomes
 use Rattle.pg_worker.specs.declared.worker.Worker.{Worker}
 use Rattle.pg_worker.specs.Pages.{is_marked, page_of}
 
@@ -119,6 +123,25 @@ pub record TookOne (a b : Worker) : Type 0 where
 pub record HasToWait (a b : Worker) : Type 0 where
   pub looked : looks_of a.seat.me.0 < looks_of b.seat.me.0
   pub early : (g : ℕ) → next_turn_of b ≡ Some g → seen_of b.seat.me.0 < g
+
+-- it waits, and takes no step
+pub record HasWaited (p : NumberedProgram) (a b : Worker) : Type 0 where
+  pub same : b ≡ record a { seat = b.seat }
+  pub went : WentOn a b
+  pub waits : HasToWait a b
+  pub goes : is_stopped p b ≡ false
+
+-- what became of its next step
+abbrev pub HasDone : NumberedProgram → Taken → Worker → Worker → Type 0
+HasDone p outcomes.Step a b = TookOne a b
+HasDone p outcomes.Waits a b = HasWaited p a b
+HasDone p outcomes.Traps a b = (b ≡ a) × (is_trap (next p a.fiber) ≡ true)
+
+-- why it pauses: no turn is left, or it waits for its next turn, or it is stopped
+abbrev pub HasPaused : NumberedProgram → Paused → Worker → Worker → Type 0
+HasPaused p pauses.Done a b = b.done ≡ length b.turns.items
+HasPaused p pauses.Waiting a b = (b.done < length b.turns.items) × ((is_stopped p b ≡ false) × HasToWait a b)
+HasPaused p pauses.Stopped a b = (b.done < length b.turns.items) × (is_stopped p b ≡ true)
 
 -- b is a behind one step of its own state, which went on with this answer; their seats are another matter
 pub record IsResumed (p : NumberedProgram) (answer : ℕ) (a b : Worker) : Type 0 where

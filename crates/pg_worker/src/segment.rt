@@ -1,16 +1,16 @@
 //! Segments: the steps of a worker until its next turn isn't due.
 
-ghost use Rattle.std.specs.Prelude.{◌≡◌, ◌<◌, ◌⊎◌, ◌↔◌, IfNone, IfSome, length, true};
+ghost use Rattle.std.specs.Prelude.{◌≡◌, ◌<◌, IfNone, IfSome, length, true};
 ghost use Rattle.pg_run_thread.specs.States.{IsOf};
 ghost use Rattle.pg_run_thread.specs.Step.{after, next};
 ghost use Rattle.pg_run_thread.specs.declared.action.Action.TheVariants as actions;
-ghost use Rattle.pg_law_course.specs.Rests.{is_trap};
-ghost use Rattle.pg_worker.specs.Standing.{HasToWait, IsAt, TookOne, WentOn, is_stopped, run_in, table_in};
+ghost use Rattle.pg_worker.specs.Standing.{HasDone, HasPaused, IsAt, WentOn, run_in, table_in, waits_there};
 
 use crate::hook::Hook;
 use crate::shared::Shared;
 use crate::worker::{Paused, Taken, Worker};
 use pg_ir::Program;
+use pg_num::Place as Range;
 use pg_run_thread::{Action, Advance, Fiber};
 
 /// Does a thread's next step if only its own state decides and sees it, or else gives what it asks.
@@ -27,6 +27,58 @@ fn ask(p: &Program, fiber: &mut Fiber) -> Option<Action>
 }
 
 impl Worker {
+    /// A turn, or an action behind which none is left: it waits until its next turn is due, and does it.
+    fn turn(&mut self, shared: &Shared<'_>, action: Action) -> Taken
+        requires at { IsAt (run_in shared.now) (table_in shared.now) 0 self.old }
+        requires left { 0 < self.old.left }
+        requires turn { self.old.done < length self.old.turns.items }
+        requires next { next shared.now.program.now self.old.fiber ≡ action }
+        requires waits { waits_there (run_in shared.now) self.old.fiber ≡ true }
+        ensures at { IsAt (run_in shared.now) (table_in shared.now) 0 self.new }
+        ensures done { HasDone shared.now.program.now result self.old self.new }
+    {
+        let _turn = self.next_turn();
+        if !self.comes(shared) {
+            return Taken::Waits;
+        }
+        self.take_turn(shared, action);
+        Taken::Step
+    }
+
+    /// A load, as a turn where it is gated.
+    fn load_or_turn(&mut self, shared: &Shared<'_>, at: Range) -> Taken
+        requires at { IsAt (run_in shared.now) (table_in shared.now) 0 self.old }
+        requires gated { shared.now.gated ≡ shared.now.schedule.now.gated }
+        requires left { 0 < self.old.left }
+        requires turn { self.old.done < length self.old.turns.items }
+        requires next { next shared.now.program.now self.old.fiber ≡ actions.Load at }
+        ensures at { IsAt (run_in shared.now) (table_in shared.now) 0 self.new }
+        ensures done { HasDone shared.now.program.now result self.old self.new }
+    {
+        if shared.gated.has(self.fiber.id()) {
+            return self.turn(shared, Action::Load(at));
+        }
+        self.load(shared, at);
+        Taken::Step
+    }
+
+    /// A store, as a turn where it is gated.
+    fn store_or_turn(&mut self, shared: &Shared<'_>, at: Range, number: u64) -> Taken
+        requires at { IsAt (run_in shared.now) (table_in shared.now) 0 self.old }
+        requires gated { shared.now.gated ≡ shared.now.schedule.now.gated }
+        requires left { 0 < self.old.left }
+        requires turn { self.old.done < length self.old.turns.items }
+        requires next { next shared.now.program.now self.old.fiber ≡ actions.Store at number }
+        ensures at { IsAt (run_in shared.now) (table_in shared.now) 0 self.new }
+        ensures done { HasDone shared.now.program.now result self.old self.new }
+    {
+        if shared.gated.has(self.fiber.id()) {
+            return self.turn(shared, Action::Store(at, number));
+        }
+        self.store(shared, at, number);
+        Taken::Step
+    }
+
     /// Its next action, which isn't done yet, by kinds.
     fn asked(&mut self, shared: &Shared<'_>, action: Action) -> Taken
         requires at { IsAt (run_in shared.now) (table_in shared.now) 0 self.old }
@@ -35,45 +87,26 @@ impl Worker {
         requires turn { self.old.done < length self.old.turns.items }
         requires next { next shared.now.program.now self.old.fiber ≡ action }
         ensures at { IsAt (run_in shared.now) (table_in shared.now) 0 self.new }
-        ensures took { result ≡ Taken.Step → TookOne self.old self.new }
-        ensures waits { result ≡ Taken.Waits → HasToWait self.old self.new × WentOn self.old self.new × (is_stopped shared.now.program.now self.new ≡ false) }
-        ensures traps { result ≡ Taken.Traps → (self.new ≡ self.old) × (is_trap (next shared.now.program.now self.new.fiber) ≡ true) }
+        ensures done { HasDone shared.now.program.now result self.old self.new }
     {
         match action {
-            Action::Trap(_) => {
-                return Taken::Traps;
-            }
+            Action::Trap(_) => Taken::Traps,
             Action::Local => {
                 self.local(shared);
-                return Taken::Step;
+                Taken::Step
             }
             Action::In(index) => {
                 self.read(shared, index);
-                return Taken::Step;
+                Taken::Step
             }
             Action::InLen => {
                 self.count_input(shared);
-                return Taken::Step;
+                Taken::Step
             }
-            Action::Load(at) => {
-                if !shared.gated.has(self.fiber.id()) {
-                    self.load(shared, at);
-                    return Taken::Step;
-                }
-            }
-            Action::Store(at, number) => {
-                if !shared.gated.has(self.fiber.id()) {
-                    self.store(shared, at, number);
-                    return Taken::Step;
-                }
-            }
-            Action::Event(_) | Action::Ended => {}
+            Action::Load(at) => self.load_or_turn(shared, at),
+            Action::Store(at, number) => self.store_or_turn(shared, at, number),
+            Action::Event(_) | Action::Ended => self.turn(shared, action),
         }
-        if !self.comes(shared) {
-            return Taken::Waits;
-        }
-        self.take_turn(shared, action);
-        Taken::Step
     }
 
     /// Its next step, if it can take one.
@@ -83,9 +116,7 @@ impl Worker {
         requires left { 0 < self.old.left }
         requires turn { self.old.done < length self.old.turns.items }
         ensures at { IsAt (run_in shared.now) (table_in shared.now) 0 self.new }
-        ensures took { result ≡ Taken.Step → TookOne self.old self.new }
-        ensures waits { result ≡ Taken.Waits → HasToWait self.old self.new × WentOn self.old self.new × (is_stopped shared.now.program.now self.new ≡ false) }
-        ensures traps { result ≡ Taken.Traps → (self.new ≡ self.old) × (is_trap (next shared.now.program.now self.new.fiber) ≡ true) }
+        ensures done { HasDone shared.now.program.now result self.old self.new }
     {
         match ask(shared.program, &mut self.fiber) {
             None => {
@@ -102,9 +133,7 @@ impl Worker {
         requires gated { shared.now.gated ≡ shared.now.schedule.now.gated }
         ensures at { IsAt (run_in shared.now) (table_in shared.now) 0 self.new }
         ensures went { WentOn self.old self.new }
-        ensures done { result ≡ Paused.Done ↔ self.new.done ≡ length self.new.turns.items }
-        ensures stopped { result ≡ Paused.Stopped ↔ ((self.new.done < length self.new.turns.items) × (is_stopped shared.now.program.now self.new ≡ true)) }
-        ensures waits { result ≡ Paused.Waiting → HasToWait self.old self.new }
+        ensures paused { HasPaused shared.now.program.now result self.old self.new }
     {
         while self.done < self.turns.len() {
             if self.left == 0 {
@@ -113,12 +142,8 @@ impl Worker {
             hook.at_action(self.thread, self.fiber.id(), !self.fiber.has_begun());
             match self.step(shared) {
                 Taken::Step => {}
-                Taken::Waits => {
-                    return Paused::Waiting;
-                }
-                Taken::Traps => {
-                    return Paused::Stopped;
-                }
+                Taken::Waits => return Paused::Waiting,
+                Taken::Traps => return Paused::Stopped,
             }
         }
         Paused::Done

@@ -1,0 +1,38 @@
+-- Marks of pages, as bits of words.
+use Rattle.std.proofs.Common.{◌≡◌, ℕ, zero, suc, ◌+◌, ◌*◌, ◌/◌, ◌%◌, ◌^◌, ◌<◌, List, length, get_or, replicate, Bool, true, false, refl, sym, ◌∙◌, ap, arith}
+use Rattle.std.specs.Prelude.{◌==◌, bit_or, slice_index, slice_set}
+use Rattle.std.specs.Int.{bit_at, w64}
+use Rattle.std.proofs.lemmas.Bool.{eq-eqb, eqb-false, eqb-true}
+use Rattle.std.proofs.lemmas.List.{get_or-set_other, get_or-set_same}
+use Rattle.std.proofs.lemmas.Nat.Bits.{bit_at-lt, bit_at-zero, bit_at_or, bit_at_set_same}
+use Rattle.pg_worker.specs.Pages.{is_marked}
+
+zero_at : (n i : ℕ) → slice_index (replicate n 0) i ≡ 0
+zero_at zero i = refl
+zero_at (suc n) zero = refl
+zero_at (suc n) (suc i) = zero_at n i
+
+pub no_marks : (n page : ℕ) → is_marked (replicate n 0) page ≡ false
+no_marks n page = ap (λ (w : ℕ). bit_at w (page % 64) == 1) (zero_at n (page / 64)) ∙ ap (λ (b : ℕ). b == 1) (bit_at-zero (page % 64))
+
+-- the words with one mark more
+abbrev pub with_mark : List ℕ → ℕ → ℕ → List ℕ
+with_mark words i k = slice_set words i (bit_or (slice_index words i) (1 * 2 ^ k % 2 ^ 64))
+
+pub marked_now : (words : List ℕ) (page : ℕ) → page / 64 < length words → is_marked (with_mark words (page / 64) (page % 64)) page ≡ true
+marked_now words page lt =
+    ap (λ (w : ℕ). bit_at w (page % 64) == 1) (get_or-set_same words (page / 64) (bit_or (slice_index words (page / 64)) (1 * 2 ^ (page % 64) % 2 ^ 64)) 0 lt)
+    ∙ ap (λ (b : ℕ). b == 1) (bit_at_set_same w64 (slice_index words (page / 64)) (page % 64) (omega arith))
+
+pub marked_still : (words : List ℕ) (i k page : ℕ) → i < length words → is_marked words page ≡ true → is_marked (with_mark words i k) page ≡ true
+marked_still words i k page lt e = go (page / 64 == i) refl
+  where
+    go : (b : Bool) → (page / 64 == i) ≡ b → is_marked (with_mark words i k) page ≡ true
+    go false q = ap (λ (w : ℕ). bit_at w (page % 64) == 1) (get_or-set_other words i (page / 64) (bit_or (slice_index words i) (1 * 2 ^ k % 2 ^ 64)) 0 (eqb-false (page / 64) i q)) ∙ e
+    go true q =
+        let same : page / 64 ≡ i = eqb-true (page / 64) i q in
+        let one : bit_at (slice_index words i) (page % 64) ≡ 1 = ap (λ (j : ℕ). bit_at (slice_index words j) (page % 64)) (sym same) ∙ eqb-true _ 1 e in
+        let more = bit_at_or (slice_index words i) (1 * 2 ^ k % 2 ^ 64) (page % 64) in
+        let few = bit_at-lt (bit_or (slice_index words i) (1 * 2 ^ k % 2 ^ 64)) (page % 64) in
+        ap (λ (w : ℕ). bit_at w (page % 64) == 1) (ap (get_or (with_mark words i k)) same ∙ get_or-set_same words i (bit_or (slice_index words i) (1 * 2 ^ k % 2 ^ 64)) 0 lt)
+        ∙ eq-eqb _ 1 (omega (arith, one, more, few))
