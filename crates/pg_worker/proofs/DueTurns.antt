@@ -54,7 +54,7 @@ event_or_end (actions.Store q n) false g e = absurd cc
 event_or_end (actions.Event q) false g e = absurd cc
 event_or_end (actions.Trap name) false g e = absurd cc
 
-traps_not : (gated : List InstrId) (id : ℕ) (x : Action) → is_trap x ≡ true → (is_event_at gated id x || is_end x) ≡ true → ⊥
+pub traps_not : (gated : List InstrId) (id : ℕ) (x : Action) → is_trap x ≡ true → (is_event_at gated id x || is_end x) ≡ true → ⊥
 traps_not gated id (actions.Trap name) t e = absurd cc
 traps_not gated id actions.Ended t e = absurd cc
 traps_not gated id actions.Local t e = absurd cc
@@ -266,7 +266,7 @@ fits_some : (f : Timed Did → Bool) (o : Option (Timed Did)) → fits f o ≡ t
 fits_some f None e = absurd cc
 fits_some f (Some x) e = (x, (refl, e))
 
-module _ (r : Run) (table : TableId) (parts : ℕ) (a : Worker) (at : IsAt r table parts a) (g : ℕ) (left : next_turn_of a ≡ Some g) (event : stands_at_event r a.fiber ≡ true) (due : IsDue a) where
+module _ (r : Run) (table : TableId) (parts : ℕ) (a : Worker) (at : IsAt r table parts a) (g : ℕ) (left : next_turn_of a ≡ Some g) (due : IsDue a) where
   is_due_now : is_due at.standing g ≡ true
   is_due_now = (and_parts at.standing.due (is_due at.standing g) (ap (λ m. is_now m.0 g) (sym at.view) ∙ due g left)).1
 
@@ -279,8 +279,8 @@ module _ (r : Run) (table : TableId) (parts : ℕ) (a : Worker) (at : IsAt r tab
   shared_left = let x = fits_some (is_turn g) (next_of at.standing) is_due_now in left_of x.0 x.1.0
 
   -- the run has the turn
-  pub due_step : HasStep r a.thread.0 at.taken a.fiber
-  due_step = go (cases_lt at.taken (length (course r.program r.input r.schedule a.thread.0)))
+  step_due : HasStep r a.thread.0 at.taken a.fiber
+  step_due = go (cases_lt at.taken (length (course r.program r.input r.schedule a.thread.0)))
     where
       go : (at.taken < length (course r.program r.input r.schedule a.thread.0)) ⊎ (length (course r.program r.input r.schedule a.thread.0) ≤ at.taken) → HasStep r a.thread.0 at.taken a.fiber
       go (inl lt) = at_step r at.enforced a.thread.0 at.taken a.fiber at.local lt
@@ -290,6 +290,14 @@ module _ (r : Run) (table : TableId) (parts : ℕ) (a : Worker) (at : IsAt r tab
           let s : length (own_of r a.thread.0) ≡ shared_in r.program r.input r.schedule a.thread.0 at.taken =
           shared_end r.program r.input r.schedule at.enforced.can at.enforced.good a.thread.0 ∙ ap (shared_in r.program r.input r.schedule a.thread.0) (sym e) in
           let d = at.seat.done in let l = shared_left in absurd (omega (arith, s, d, l))
+
+  -- a worker that waits and is due stands at an event
+  pub due_stands : waits_there r a.fiber ≡ true → stands_at_event r a.fiber ≡ true
+  due_stands waits = event_or_end (next r.program a.fiber) (stands_at_event r a.fiber) step_due.of.goes waits
+
+module _ (r : Run) (table : TableId) (parts : ℕ) (a : Worker) (at : IsAt r table parts a) (g : ℕ) (left : next_turn_of a ≡ Some g) (event : stands_at_event r a.fiber ≡ true) (due : IsDue a) where
+  pub due_step : HasStep r a.thread.0 at.taken a.fiber
+  due_step = step_due r table parts a at g left due
 
   pub due_event : deeds.is_event due_step.step ≡ true
   due_event = due_step.of.event ∙ event

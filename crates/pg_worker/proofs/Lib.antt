@@ -5,5 +5,6 @@ mod StepLeaves
 mod NextSteps
 mod PlainSteps
 mod DueTurns
+mod FirstWorkers
 mod Segments
 mod TurnKinds

@@ -1,6 +1,7 @@
 -- Steps of a worker one after another, and what its own state asks.
-use Rattle.std.proofs.Common.{◌≡◌, ◌<◌, ◌≤◌, ℕ, suc, Some, refl, sym, ◌∙◌, ap, subst, arith}
-use Rattle.atomic_table.specs.Seated.{TableId}
+use Rattle.std.proofs.Common.{◌≡◌, ◌<◌, ◌≤◌, ℕ, suc, length, Bool, true, false, Some, refl, sym, ◌∙◌, ap, subst, arith}
+use Rattle.std.specs.Prelude.{◌==◌, ◌||◌}
+use Rattle.std.proofs.lemmas.Bool.{eq-eqb, eqb-true, false_from_ne_true}
 use Rattle.pg_ir.specs.Program.{NumberedProgram}
 use Rattle.pg_run_thread.specs.Advance.{advanced, done_if, local_told}
 use Rattle.pg_run_thread.specs.LocalState.{LocalState}
@@ -12,8 +13,12 @@ use Rattle.pg_run_thread.specs.declared.advance.Advance.{Advance}
 use Rattle.pg_run_thread.specs.declared.advance.Advance.TheVariants.{Asks, Done}
 use Rattle.pg_run_thread.specs.declared.advance.LocalStep.{LocalStep}
 use Rattle.pg_worker.specs.declared.worker.Worker.{Worker}
+use Rattle.pg_run_thread.specs.Told.{id_of}
+use Rattle.pg_law_runs.specs.Deeds.{is_event_at}
+use Rattle.pg_law_course.specs.Rests.{is_trap}
 use Rattle.pg_seats.specs.declared.run.Run.{Run}
-use Rattle.pg_worker.specs.Standing.{HasToWait, IsAt, IsResumed, TookOne, WentOn}
+use Rattle.pg_worker.specs.Standing.{HasToWait, IsResumed, TookOne, TookTurn, WentOn, is_end, is_stopped, waits_there}
+use Rattle.pg_worker.proofs.DueTurns.{traps_not}
 
 -- ---- what a thread's own state asks
 
@@ -71,36 +76,53 @@ wait_later a b c h k = record { looked = (let x = h.looks in let y = k.looked in
 
 -- ---- a worker whose own state was looked at
 
-pub same_own : (r : Run) (table : TableId) (a : Worker) (l : LocalState) → l ≡ a.fiber → IsAt r table 0 a → IsAt r table 0 (record a { fiber = l })
-same_own r table a l e at = record {
-  enforced = at.enforced;
-  taken = at.taken;
-  standing = at.standing;
-  own = at.own;
-  view = at.view;
-  seat = at.seat;
-  local = at.local ∙ ap Some (sym e);
-  of = subst (IsOf r.program) (sym e) at.of;
-  steps = at.steps;
-  turns = at.turns;
-  turns_done = at.turns_done;
-  behind = at.behind;
-  prints = at.prints;
-  few = at.few;
-  room = at.room;
-  value = at.value;
-  marked = at.marked;
-}
-
-pub took_own : (a b : Worker) (l : LocalState) → TookOne (record a { fiber = l }) b → TookOne a b
-took_own a b l h = record { one = h.one; went = record { thread = h.went.thread; turns = h.went.turns; done = h.went.done; left = h.went.left; seen = h.went.seen; looks = h.went.looks } }
-
-pub waits_own : (a b : Worker) (l : LocalState) → HasToWait (record a { fiber = l }) b × WentOn (record a { fiber = l }) b → HasToWait a b × WentOn a b
-waits_own a b l h = (
-  record { looked = h.0.looked; early = h.0.early },
-  record { thread = h.1.thread; turns = h.1.turns; done = h.1.done; left = h.1.left; seen = h.1.seen; looks = h.1.looks },
-)
+pub same_fiber : (a : Worker) (l : LocalState) → l ≡ a.fiber → record a { fiber = l } ≡ a
+same_fiber a l e = ap (λ (f : LocalState). record a { fiber = f }) e
 
 -- a step that was done by its own state alone
 pub done_own : (p : NumberedProgram) (a : Worker) (l : LocalState) (left : ℕ) → l ≡ after p a.fiber 0 → IsOf p l → suc left ≡ a.left → IsResumed p 0 a (record a { fiber = l; left = left })
 done_own p a l left e of n = record { fiber = e; of = of; left = n; thread = refl; turns = refl; done = refl; prints = refl; value = refl; pages = refl }
+
+-- ---- a worker that waits
+
+pub stands_there : (r : Run) (l : LocalState) (x : Action) → next r.program l ≡ x → is_event_at r.schedule.gated (id_of l) x ≡ true → waits_there r l ≡ true
+stands_there r l x e h = ap (λ (b : Bool). b || is_end (next r.program l)) (ap (is_event_at r.schedule.gated (id_of l)) e ∙ h)
+
+pub ends_there : (r : Run) (l : LocalState) → next r.program l ≡ actions.Ended → waits_there r l ≡ true
+ends_there r l e = ap (λ (x : Action). is_event_at r.schedule.gated (id_of l) x || is_end x) e
+
+-- b is a, which waits, but for its seat
+module _ (a b : Worker) (same : b ≡ record a { seat = b.seat }) where
+  pub still_left : 0 < a.left → 0 < b.left
+  still_left h = let e : b.left ≡ a.left = ap (λ (w : Worker). w.left) same in omega (arith, e, h)
+
+  pub still_turn : a.done < length a.turns.items → b.done < length b.turns.items
+  still_turn h = subst (λ (w : Worker). w.done < length w.turns.items) (sym same) h
+
+  pub still_fiber : b.fiber ≡ a.fiber
+  still_fiber = ap (λ (w : Worker). w.fiber) same
+
+  pub still_goes : (r : Run) → 0 < a.left → waits_there r a.fiber ≡ true → is_stopped r.program b ≡ false
+  still_goes r few waits = ap (is_stopped r.program) same ∙ none (is_trap (next r.program a.fiber)) refl
+    where
+      none : (t : Bool) → is_trap (next r.program a.fiber) ≡ t → is_stopped r.program a ≡ false
+      none true e = absurd (traps_not r.schedule.gated (id_of a.fiber) (next r.program a.fiber) e waits)
+      none false e = ap (λ (x : Bool). x || (a.left == 0)) e ∙ false_from_ne_true (a.left == 0) (λ z. (let k = eqb-true a.left 0 z in omega (arith, k, few)))
+
+  -- c is b behind a turn
+  pub took_late : (c : Worker) → WentOn a b → TookTurn b c → TookOne a c
+  took_late c w t = record {
+    one = (let x = t.took.one in let y : b.left ≡ a.left = ap (λ (w : Worker). w.left) same in omega (arith, x, y));
+    went = went_more a b c w t.took.went;
+  }
+
+-- it is stopped
+pub stops_spent : (p : NumberedProgram) (a : Worker) → a.left ≡ 0 → is_stopped p a ≡ true
+stops_spent p a e = go (is_trap (next p a.fiber))
+  where
+    go : (b : Bool) → (b || (a.left == 0)) ≡ true
+    go true = refl
+    go false = eq-eqb a.left 0 e
+
+pub stops_trap : (p : NumberedProgram) (a b : Worker) → b ≡ a → is_trap (next p a.fiber) ≡ true → is_stopped p b ≡ true
+stops_trap p a b e h = ap (is_stopped p) e ∙ ap (λ (x : Bool). x || (a.left == 0)) h

@@ -124,25 +124,6 @@ pub record HasToWait (a b : Worker) : Type 0 where
   pub looked : looks_of a.seat.me.0 < looks_of b.seat.me.0
   pub early : (g : ℕ) → next_turn_of b ≡ Some g → seen_of b.seat.me.0 < g
 
--- it waits, and takes no step
-pub record HasWaited (p : NumberedProgram) (a b : Worker) : Type 0 where
-  pub same : b ≡ record a { seat = b.seat }
-  pub went : WentOn a b
-  pub waits : HasToWait a b
-  pub goes : is_stopped p b ≡ false
-
--- what became of its next step
-abbrev pub HasDone : NumberedProgram → Taken → Worker → Worker → Type 0
-HasDone p outcomes.Step a b = TookOne a b
-HasDone p outcomes.Waits a b = HasWaited p a b
-HasDone p outcomes.Traps a b = (b ≡ a) × (is_trap (next p a.fiber) ≡ true)
-
--- why it pauses: no turn is left, or it waits for its next turn, or it is stopped
-abbrev pub HasPaused : NumberedProgram → Paused → Worker → Worker → Type 0
-HasPaused p pauses.Done a b = b.done ≡ length b.turns.items
-HasPaused p pauses.Waiting a b = (b.done < length b.turns.items) × ((is_stopped p b ≡ false) × HasToWait a b)
-HasPaused p pauses.Stopped a b = (b.done < length b.turns.items) × (is_stopped p b ≡ true)
-
 -- b is a behind one step of its own state, which went on with this answer; their seats are another matter
 pub record IsResumed (p : NumberedProgram) (answer : ℕ) (a b : Worker) : Type 0 where
   pub fiber : b.fiber ≡ after p a.fiber answer
@@ -176,6 +157,35 @@ stands_at_event r l = is_event_at r.schedule.gated (id_of l) (next r.program l)
 
 abbrev pub waits_there : Run → LocalState → Bool
 waits_there r l = stands_at_event r l || is_end (next r.program l)
+
+-- ---- why it pauses
+
+-- b is a, which waited and took no step: it stands at an event, or its thread has ended
+pub record HasWaited (r : Run) (a b : Worker) : Type 0 where
+  pub same : b ≡ record a { seat = b.seat }
+  pub went : WentOn a b
+  pub waits : HasToWait a b
+  pub goes : is_stopped r.program b ≡ false
+  pub stands : waits_there r b.fiber ≡ true
+
+-- what became of its next step
+abbrev pub HasDone : Run → Taken → Worker → Worker → Type 0
+HasDone r outcomes.Step a b = TookOne a b
+HasDone r outcomes.Waits a b = HasWaited r a b
+HasDone r outcomes.Traps a b = (b ≡ a) × (is_trap (next r.program a.fiber) ≡ true)
+
+-- a turn is left and isn't due, the worker isn't stopped, and it stands at an event or its thread has ended
+pub record IsWaiting (r : Run) (a b : Worker) : Type 0 where
+  pub turn : b.done < length b.turns.items
+  pub waits : HasToWait a b
+  pub goes : is_stopped r.program b ≡ false
+  pub stands : waits_there r b.fiber ≡ true
+
+-- no turn is left, or it waits for its next turn, or a turn is left and it is stopped
+abbrev pub HasPaused : Run → Paused → Worker → Worker → Type 0
+HasPaused r pauses.Done a b = b.done ≡ length b.turns.items
+HasPaused r pauses.Waiting a b = IsWaiting r a b
+HasPaused r pauses.Stopped a b = (b.done < length b.turns.items) × (is_stopped r.program b ≡ true)
 
 -- the answer with which thread t goes on behind k of its steps, in the local state l
 abbrev pub answer_at : Run → ℕ → ℕ → LocalState → ℕ

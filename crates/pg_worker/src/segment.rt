@@ -35,7 +35,7 @@ impl Worker {
         requires next { next shared.now.program.now self.old.fiber ≡ action }
         requires waits { waits_there (run_in shared.now) self.old.fiber ≡ true }
         ensures at { IsAt (run_in shared.now) (table_in shared.now) 0 self.new }
-        ensures done { HasDone shared.now.program.now result self.old self.new }
+        ensures done { HasDone (run_in shared.now) result self.old self.new }
     {
         let _turn = self.next_turn();
         if !self.comes(shared) {
@@ -53,7 +53,7 @@ impl Worker {
         requires turn { self.old.done < length self.old.turns.items }
         requires next { next shared.now.program.now self.old.fiber ≡ actions.Load at }
         ensures at { IsAt (run_in shared.now) (table_in shared.now) 0 self.new }
-        ensures done { HasDone shared.now.program.now result self.old self.new }
+        ensures done { HasDone (run_in shared.now) result self.old self.new }
     {
         if shared.gated.has(self.fiber.id()) {
             return self.turn(shared, Action::Load(at));
@@ -70,7 +70,7 @@ impl Worker {
         requires turn { self.old.done < length self.old.turns.items }
         requires next { next shared.now.program.now self.old.fiber ≡ actions.Store at number }
         ensures at { IsAt (run_in shared.now) (table_in shared.now) 0 self.new }
-        ensures done { HasDone shared.now.program.now result self.old self.new }
+        ensures done { HasDone (run_in shared.now) result self.old self.new }
     {
         if shared.gated.has(self.fiber.id()) {
             return self.turn(shared, Action::Store(at, number));
@@ -87,7 +87,7 @@ impl Worker {
         requires turn { self.old.done < length self.old.turns.items }
         requires next { next shared.now.program.now self.old.fiber ≡ action }
         ensures at { IsAt (run_in shared.now) (table_in shared.now) 0 self.new }
-        ensures done { HasDone shared.now.program.now result self.old self.new }
+        ensures done { HasDone (run_in shared.now) result self.old self.new }
     {
         match action {
             Action::Trap(_) => Taken::Traps,
@@ -116,7 +116,7 @@ impl Worker {
         requires left { 0 < self.old.left }
         requires turn { self.old.done < length self.old.turns.items }
         ensures at { IsAt (run_in shared.now) (table_in shared.now) 0 self.new }
-        ensures done { HasDone shared.now.program.now result self.old self.new }
+        ensures done { HasDone (run_in shared.now) result self.old self.new }
     {
         match ask(shared.program, &mut self.fiber) {
             None => {
@@ -133,7 +133,7 @@ impl Worker {
         requires gated { shared.now.gated ≡ shared.now.schedule.now.gated }
         ensures at { IsAt (run_in shared.now) (table_in shared.now) 0 self.new }
         ensures went { WentOn self.old self.new }
-        ensures paused { HasPaused shared.now.program.now result self.old self.new }
+        ensures paused { HasPaused (run_in shared.now) result self.old self.new }
     {
         while self.done < self.turns.len() {
             if self.left == 0 {
