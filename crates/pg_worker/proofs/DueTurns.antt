@@ -43,7 +43,7 @@ use Rattle.pg_worker.proofs.PlainSteps.{its_next}
 
 -- ---- what waits
 
-event_or_end : (x : Action) (b : Bool) → goes_on x ≡ true → (b || is_end x) ≡ true → b ≡ true
+pub event_or_end : (x : Action) (b : Bool) → goes_on x ≡ true → (b || is_end x) ≡ true → b ≡ true
 event_or_end x true g e = refl
 event_or_end actions.Ended false g e = absurd cc
 event_or_end actions.Local false g e = absurd cc

@@ -7,4 +7,6 @@ mod PlainSteps
 mod DueTurns
 mod FirstWorkers
 mod Segments
+mod TurnsLeft
+pub mod WorkerRests
 mod TurnKinds

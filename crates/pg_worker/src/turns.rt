@@ -19,23 +19,33 @@ use pg_run_thread::Action;
 use pg_seats::turns;
 
 /// The number that an action prints, if it prints one.
-fn printed_by(action: Action) -> Option<u64>
-    ensures { result ≡ number_printed action }
+fn printed_by(action: &Action) -> Option<u64>
+    ensures { result ≡ number_printed action.now }
 {
     match action {
-        Action::Event(Request::Out { value } | Request::Putchar { value }) => Some(value),
+        Action::Event(Request::Out { value } | Request::Putchar { value }) => Some(*value),
         _ => None,
     }
 }
 
 /// Where an action stores, if it stores.
-fn stored_by(action: Action) -> Option<Range>
-    ensures { result ≡ place_stored action }
+fn stored_by(action: &Action) -> Option<Range>
+    ensures { result ≡ place_stored action.now }
 {
     match action {
-        Action::Store(at, _) => Some(at),
-        Action::Event(Request::Create { at, .. }) => Some(at),
-        Action::Event(Request::Join { at, .. }) => at,
+        Action::Store(at, _) => Some(*at),
+        Action::Event(Request::Create { at, .. }) => Some(*at),
+        Action::Event(Request::Join { at, .. }) => *at,
+        _ => None,
+    }
+}
+
+/// The value with which an action ends its thread, if it does.
+fn value_of(action: &Action) -> Option<u64>
+    ensures { result ≡ value_left action.now }
+{
+    match action {
+        Action::Event(Request::Exit { value, .. }) => Some(*value),
         _ => None,
     }
 }
@@ -84,24 +94,24 @@ impl Worker {
         }
     }
 
-    /// Keeps the value with which an action ends the thread, if it does.
-    fn leave(&mut self, action: Action)
-        ensures value { self.new.value ≡ or_old (value_left action) self.old.value }
+    /// Keeps the value with which the thread ends, if it does.
+    fn leave(&mut self, value: Option<u64>)
+        ensures value { self.new.value ≡ or_old value self.old.value }
         ensures same { self.new ≡ record self.old { value = self.new.value } }
     {
-        if let Action::Event(Request::Exit { value, .. }) = action {
+        if let Some(value) = value {
             self.value = value;
         }
     }
 
     /// Keeps what an action prints, the page in which it stores, and the value that it leaves.
-    fn keep(&mut self, action: Action)
+    fn keep(&mut self, action: &Action)
         requires room { length self.old.prints.items < vec_capacity self.old.prints }
-        ensures { HasKept action self.old self.new }
+        ensures { HasKept action.now self.old self.new }
     {
         self.print(printed_by(action));
         self.mark(stored_by(action));
-        self.leave(action);
+        self.leave(value_of(action));
     }
 
     /// Ends the turn that is due, with the answer to its action.
@@ -117,7 +127,7 @@ impl Worker {
         ensures took { TookTurn self.old self.new }
     {
         let _turn = self.next_turn();
-        self.keep(action);
+        self.keep(&action);
         turns::advance(&shared.words, &mut self.seat);
         self.done += 1;
         self.resume(shared.program, answer);
