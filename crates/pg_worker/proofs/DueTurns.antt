@@ -405,7 +405,7 @@ module _ (r : Run) (table : TableId) (parts : ℕ) (a : Worker) (at : IsAt r tab
       few = subst (λ (xs : List ℕ). length xs ≤ b.done) (sym prints_are) (subst (λ (k : ℕ). length (a.prints.items ++ cons_option (number_printed (next r.program a.fiber)) []) ≤ k) (sym done_is)
           (few_numbers (number_printed (next r.program a.fiber)) a.prints.items a.done at.few));
       room = room_is;
-      value = λ zero. value_more r at.enforced a.thread.0 at.taken a.fiber due_step at.local a.value b.value at.value value (thread_is ∙ zero);
+      value = λ main. value_more r at.enforced a.thread.0 at.taken a.fiber due_step at.local a.value b.value at.value value (thread_is ∙ main);
       marked = subst (λ (u : ℕ). HasMarks r u (suc at.taken) b.pages.words.items) thread_is (subst (λ p. HasMarks r a.thread.0 (suc at.taken) p.words.items) (sym pages)
           (marks_more r at.enforced a.thread.0 at.taken a.fiber due_step at.local a.pages.words.items c.pages.words.items at.marked kept.marked kept.stored));
     }

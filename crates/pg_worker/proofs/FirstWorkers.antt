@@ -36,7 +36,7 @@ first_at r table w enforced own view fiber of left turns done prints room value 
   prints = prints;
   few = subst (λ xs. length xs ≤ w.done) (sym prints) (omega arith);
   room = room;
-  value = λ zero. value;
+  value = λ main. value;
   marked = λ i d b lt e. absurd (omega (arith, lt));
 }
 

@@ -115,7 +115,7 @@ module _ (r : Run) (table : TableId) (a b : Worker) (at : IsAt r table 0 a) (n :
         ∙ ap (λ (u : ℕ). numbers_printed r.program r.input r.schedule u (suc at.taken)) thread;
     few = subst (λ (m : ℕ). length b.prints.items ≤ m) (sym h.done) (subst (λ v. length v.items ≤ a.done) (sym h.prints) at.few);
     room = subst (λ v. length v.items ≤ vec_capacity b.prints) (sym h.turns) (subst (λ v. length a.turns.items ≤ vec_capacity v) (sym h.prints) at.room);
-    value = λ zero. h.value ∙ value_more r at.enforced a.thread.0 at.taken a.fiber n at.local a.value a.value at.value (ap (λ (o : Option ℕ). or_old o a.value) (sym stays)) (thread ∙ zero);
+    value = λ main. h.value ∙ value_more r at.enforced a.thread.0 at.taken a.fiber n at.local a.value a.value at.value (ap (λ (o : Option ℕ). or_old o a.value) (sym stays)) (thread ∙ main);
     marked = subst (λ (u : ℕ). HasMarks r u (suc at.taken) b.pages.words.items) thread (subst (λ p. HasMarks r a.thread.0 (suc at.taken) p.words.items) (sym h.pages)
         (marks_more r at.enforced a.thread.0 at.taken a.fiber n at.local a.pages.words.items a.pages.words.items at.marked (λ page m. m) stored));
   }

@@ -5,7 +5,9 @@ use Rattle.std.specs.Int.{bit_at, w64}
 use Rattle.std.proofs.lemmas.Bool.{eq-eqb, eqb-false, eqb-true}
 use Rattle.std.proofs.lemmas.List.{get_or-set_other, get_or-set_same}
 use Rattle.std.proofs.lemmas.Nat.Bits.{bit_at-lt, bit_at-zero, bit_at_or, bit_at_set_same}
-use Rattle.pg_worker.specs.Pages.{is_marked}
+use Rattle.pg_num.specs.Places.{ByteRange, IsPlace}
+use Rattle.pg_num.proofs.Granules.{IsPlace-some}
+use Rattle.pg_worker.specs.Pages.{is_marked, page_of}
 
 zero_at : (n i : ℕ) → slice_index (replicate n 0) i ≡ 0
 zero_at zero i = refl
@@ -36,3 +38,6 @@ marked_still words i k page lt e = go (page / 64 == i) refl
         let few = bit_at-lt (bit_or (slice_index words i) (1 * 2 ^ k % 2 ^ 64)) (page % 64) in
         ap (λ (w : ℕ). bit_at w (page % 64) == 1) (ap (get_or (with_mark words i k)) same ∙ get_or-set_same words i (bit_or (slice_index words i) (1 * 2 ^ k % 2 ^ 64)) 0 lt)
         ∙ eq-eqb _ 1 (omega (arith, one, more, few))
+
+pub within : (q : ByteRange) (words : List ℕ) → IsPlace q → length words ≡ 1024 → page_of q.start / 64 < length words
+within q words place wide = (let a = place.in_memory in let b = IsPlace-some q place in omega (arith, a, b, wide))

@@ -122,13 +122,13 @@ module _ (r : Run) (h : IsEnforced r) (t k : ℕ) (l : LocalState) (n : HasStep 
           ap (is_marked vs) (sym (one_page w.0 b s.0 w.1.1)) ∙ s.1
 
   main_left : t ≡ 0 → n.step.writes (MEMORY_BYTES + 0) ≡ value_left (next r.program l)
-  main_left zero = n.of.writes (MEMORY_BYTES + 0)
+  main_left main = n.of.writes (MEMORY_BYTES + 0)
       ∙ ap (λ (x : Bool). if x then byte_in (write_by cells made (next r.program l)) (MEMORY_BYTES + 0) else word_by t made (next r.program l) (MEMORY_BYTES + 0 - MEMORY_BYTES)) (above MEMORY_BYTES)
       ∙ ap (word_by t made (next r.program l)) (behind MEMORY_BYTES)
-      ∙ ap (λ (u : ℕ). word_by u made (next r.program l) 0) zero
+      ∙ ap (λ (u : ℕ). word_by u made (next r.program l) 0) main
       ∙ left_by made (next r.program l) (λ q f m e. makes_another r.program r.input r.schedule h.can h.good t k l n.step n.there now q f m e)
 
   pub value_more : (v w : ℕ) → (t ≡ 0 → v ≡ word_behind 0 0 (take k (course r.program r.input r.schedule 0))) → w ≡ or_old (value_left (next r.program l)) v
       → t ≡ 0 → w ≡ word_behind 0 0 (take (suc k) (course r.program r.input r.schedule 0))
-  value_more v w value e zero = e ∙ ap (λ (o : Option ℕ). or_old o v) (sym (main_left zero)) ∙ ap (or_old (n.step.writes (MEMORY_BYTES + 0))) (value zero)
-      ∙ sym (word_more (course r.program r.input r.schedule 0) k n.step 0 (ap (λ (u : ℕ). slice_get (course r.program r.input r.schedule u) k) (sym zero) ∙ n.there))
+  value_more v w value e main = e ∙ ap (λ (o : Option ℕ). or_old o v) (sym (main_left main)) ∙ ap (or_old (n.step.writes (MEMORY_BYTES + 0))) (value main)
+      ∙ sym (word_more (course r.program r.input r.schedule 0) k n.step 0 (ap (λ (u : ℕ). slice_get (course r.program r.input r.schedule u) k) (sym main) ∙ n.there))
