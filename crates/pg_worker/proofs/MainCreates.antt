@@ -97,12 +97,12 @@ module _ (p : NumberedProgram) (input : List ℤ) (s : Schedule) (can : CanRun p
   its_turn = event_is s.gated p input r.state r.takes.after r.told.thread.0 r.told r.takes.is_step
 
   pub makes_another : (q : ByteRange) (f n : ℕ) → next p l ≡ actions.Event (requests.Create q f n) → made_by (event_of d.told) ≡ 0 → ⊥
-  makes_another q f n e zero =
+  makes_another q f n e first =
       let u = of.turn (of.event ∙ ap (is_event_at s.gated _) e) in
       let kind : kinds.Create ≡ u.0.kind = same_kind _ _ (sym (ap (happening_by t u.0.object) e) ∙ u.2.happens) in
       let there : event_of r.told ≡ Some u.0 = ap event_of told_is ∙ u.1 in
       let object : u.0.object ≡ length r.state.sync.threads = made_next s.gated r.state r.told.thread.0 (next_of p r.state r.told.thread.0) u.0 (sym its_turn ∙ there) (ap is_create (sym kind)) in
-      let none : u.0.object ≡ 0 = ap made_by (sym u.1) ∙ zero in
+      let none : u.0.object ≡ 0 = ap made_by (sym u.1) ∙ first in
       let made = ready_made p r.state r.told.thread.0 r.takes.is_ready in
       let threads = r.reached.machine.threads in
       omega (arith, object, none, made, threads)

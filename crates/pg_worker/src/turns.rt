@@ -23,7 +23,7 @@ fn printed_by(action: &Action) -> Option<u64>
     ensures { result ≡ number_printed action.now }
 {
     match action {
-        Action::Event(Request::Out { value } | Request::Putchar { value }) => Some(*value),
+        Action::Event(Request::Out { value, .. } | Request::Putchar { value }) => Some(*value),
         _ => None,
     }
 }
