@@ -1,4 +1,5 @@
 mod PageMarks
+mod TurnLists
 mod NamedStarts
 mod MainCreates
 mod StepLeaves

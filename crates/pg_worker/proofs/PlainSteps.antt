@@ -268,6 +268,15 @@ took_plain p answer a b h view =
     (subst (λ m. seen_of a.seat.me.0 ≤ seen_of m.0) (sym view) (same_seen a.seat.me.0))
     (subst (λ m. looks_of a.seat.me.0 ≤ looks_of m.0) (sym view) (same_looks a.seat.me.0))
 
+-- a plain access behind a mark
+pub took_marked : (p : NumberedProgram) (answer : ℕ) (a m b : Worker) → m ≡ record a { pages = m.pages } → IsResumed p answer m b → b.seat.me ≡ (went_on m.seat.me.0, m.seat.me.1) → TookOne a b
+took_marked p answer a m b same h view =
+    let t = took_plain p answer m b h view in
+    record {
+      one = t.one ∙ ap (λ (w : Worker). w.left) same;
+      went = subst (λ (w : Worker). WentOn w b) same t.went;
+    }
+
 -- a step of its own state is one too where only the seat was changed before it
 pub resumed_of : (p : NumberedProgram) (answer : ℕ) (a m b : Worker) → m ≡ record a { seat = m.seat } → IsResumed p answer m b → IsResumed p answer a b
 resumed_of p answer a m b same h = record {

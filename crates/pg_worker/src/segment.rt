@@ -105,7 +105,8 @@ impl Worker {
             }
             Action::Load(at) => self.load_or_turn(shared, at),
             Action::Store(at, number) => self.store_or_turn(shared, at, number),
-            Action::Event(_) | Action::Ended => self.turn(shared, action),
+            Action::Event(request) => self.turn(shared, Action::Event(request)),
+            Action::Ended => self.turn(shared, Action::Ended),
         }
     }
 
