@@ -40,11 +40,11 @@ use Rattle.pg_law_course.proofs.StepsInRun.{StepIn}
 -- ---- the thread that a create's turn names
 
 module _ (gated : List InstrId) (s : State) (t : ℕ) where
-  kind_in : Option Turn → Option TurnKind
+  abbrev kind_in : Option Turn → Option TurnKind
   kind_in None = None
   kind_in (Some v) = Some v.kind
 
-  object_in : Option Turn → Option ℕ
+  abbrev object_in : Option Turn → Option ℕ
   object_in None = None
   object_in (Some v) = Some v.object
 

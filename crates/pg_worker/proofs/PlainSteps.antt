@@ -126,9 +126,9 @@ module _ (r : Run) (table : TableId) (a : Worker) (at : IsAt r table 0 a) (few :
   pub own_at : (action : Action) → next r.program a.fiber ≡ action → goes_on action ≡ true → is_event_at r.schedule.gated (id_of a.fiber) action ≡ false
       → is_shared_action action ≡ false → number_printed action ≡ None → value_left action ≡ None → place_stored action ≡ None → (b : Worker) (answer : ℕ)
       → ((n : HasStep r a.thread.0 at.taken a.fiber) → answer ≡ answer_at r a.thread.0 at.taken a.fiber) → IsResumed r.program answer a b → b.seat ≡ a.seat → IsAt r table 0 b
-  own_at action e goes plain own silent stays nowhere b answer answered h seat =
+  own_at action e goes plain own silent valueless nowhere b answer answered h seat =
       let n = step_of (ap goes_on e ∙ goes) (ap (is_event_at r.schedule.gated (id_of a.fiber)) e ∙ plain) in
-      still_at r table a b at n answer (n.of.event ∙ ap (is_event_at r.schedule.gated (id_of a.fiber)) e ∙ plain) (ap number_printed e ∙ silent) (ap value_left e ∙ stays) (no_place (ap place_stored e ∙ nowhere)) (answered n) h
+      still_at r table a b at n answer (n.of.event ∙ ap (is_event_at r.schedule.gated (id_of a.fiber)) e ∙ plain) (ap number_printed e ∙ silent) (ap value_left e ∙ valueless) (no_place (ap place_stored e ∙ nowhere)) (answered n) h
       (ap (λ s. s.table_id) seat ∙ at.own) at.standing (ap (λ s. s.me) seat ∙ at.view) (stays n (ap is_shared_action e ∙ own)) refl
 
   pub local_at : next r.program a.fiber ≡ actions.Local → (b : Worker) → IsResumed r.program 0 a b → b.seat ≡ a.seat → IsAt r table 0 b
