@@ -1,5 +1,5 @@
 -- What each kind of turn may do at its seat, that it is done then, and its answer.
-use Rattle.std.proofs.Common.{◌≡◌, ℕ, ℤ, suc, ◌+◌, ◌*◌, ◌^◌, ◌<◌, ◌≤◌, [], length, List, Bool, true, Option, Some, refl, sym, ◌∙◌, ap, subst, arith}
+use Rattle.std.proofs.Common.{◌≡◌, ℕ, ℤ, suc, ◌+◌, ◌*◌, ◌^◌, ◌<◌, ◌≤◌, [], length, List, Bool, true, Option, Some, None, refl, sym, ◌∙◌, ap, subst, arith}
 use Rattle.std.specs.Prelude.{◌&&◌, IfSome, slice_get, slice_index}
 use Rattle.std.proofs.lemmas.Bool.{and_parts}
 use Rattle.atomic_table.specs.Seated.{TableId}
@@ -59,10 +59,10 @@ bare_parts (requests.Join u None) e = refl
 bare_parts q e = refl
 
 module _ {r : Run} {table : TableId} {parts : ℕ} {a : Worker} (h : IsTurnDue r table parts a) where
-  number : (g : ℕ) × (next_turn_of a ≡ Some g)
+  abbrev number : (g : ℕ) × (next_turn_of a ≡ Some g)
   number = get_length a.turns.items a.done h.turn
 
-  next_step : HasStep r a.thread.0 h.at.taken a.fiber
+  abbrev next_step : HasStep r a.thread.0 h.at.taken a.fiber
   next_step = due_step r table parts a h.at number.0 number.1 h.event h.due
 
   is_event : deeds.is_event next_step.step ≡ true
@@ -86,7 +86,7 @@ module _ {r : Run} {table : TableId} {parts : ℕ} {a : Worker} (h : IsTurnDue r
     done = h.at.seat.done ∙ sym (of_seat (λ q t. shared_in q.program q.input q.schedule t h.at.taken));
   }
 
-  cells : ℕ → ℕ
+  abbrev cells : ℕ → ℕ
   cells = cells_before r.program r.input r.schedule a.thread.0 h.at.taken
 
   word_is : (t : ℕ) → word_there a.seat.me.0 t ≡ run_cells h.at.standing h.at.taken (MEMORY_BYTES + t)

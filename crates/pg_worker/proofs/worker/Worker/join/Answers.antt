@@ -14,7 +14,7 @@ pub get_word-value-requires-clause-next : goal.get_word-value-requires-clause-ne
 get_word-value-requires-clause-next c = join_may (event_due c.requires.at c.requires.turn c.requires.due c.requires.next) c.args.target c.args.at c.requires.next refl
 
 pub store_due-requires-clause-small : goal.store_due-requires-clause-small
-store_due-requires-clause-small c = join_small (event_due c.requires.at c.requires.turn c.requires.due c.requires.next) c.args.target c.args.at c.requires.next c.get_word-value.result (omega arith)
+store_due-requires-clause-small c = join_small (event_due c.requires.at c.requires.turn c.requires.due c.requires.next) c.args.target c.args.at c.requires.next c.get_word-value.result (omega (arith, c.get_word-value.type_inv))
 
 pub store_due-requires-clause-next : goal.store_due-requires-clause-next
 store_due-requires-clause-next c = join_put (kept (event_due c.requires.at c.requires.turn c.requires.due c.requires.next) c.get_word-value.new.seat c.get_word-value.ensures.own.0 c.get_word-value.ensures.view) c.args.target c.args.at c.requires.next refl c.get_word-value.result (c.get_word-value.ensures.value ∙ ap (λ v. word_there v.0 c.args.target) (sym c.get_word-value.ensures.view))
