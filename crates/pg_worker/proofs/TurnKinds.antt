@@ -1,303 +1,279 @@
--- What each kind of turn may do at its seat, and that it is done then.
-use Rattle.std.proofs.Common.{◌≡◌, ℕ, ℤ, suc, ◌+◌, ◌*◌, ◌^◌, ◌<◌, [], length, List, Bool, true, false, Option, Some, None, refl, sym, ◌∙◌, ap, subst, arith}
-use Rattle.std.specs.Prelude.{◌-◌, nat_lt, ◌==◌, ◌&&◌, slice_get, slice_index, if◌then◌else◌}
-use Rattle.pg_num.specs.Pointers.{byte_place}
-use Rattle.std.proofs.lemmas.Bool.{and_from, and_parts, eq-eqb, false_from_ne_true, ltb-true}
+-- What each kind of turn may do at its seat, that it is done then, and its answer.
+use Rattle.std.proofs.Common.{◌≡◌, ℕ, ℤ, suc, ◌+◌, ◌*◌, ◌^◌, ◌<◌, ◌≤◌, [], length, List, Bool, true, Option, Some, None, refl, sym, ◌∙◌, ap, subst, arith}
+use Rattle.std.specs.Prelude.{◌&&◌, IfSome, slice_get, slice_index}
+use Rattle.std.proofs.lemmas.Bool.{and_parts}
 use Rattle.atomic_table.specs.Seated.{TableId}
+use Rattle.atomic_table.specs.declared.shared.Seat.{Seat}
 use Rattle.pg_num.specs.Places.{ByteRange}
 use Rattle.pg_num.specs.declared.layout.TheConstants.{MEMORY_BYTES}
 use Rattle.pg_num.specs.declared.limits.TheConstants.{THREAD_LIMIT}
-use Rattle.pg_run.specs.Fits.{ActionFits}
-use Rattle.pg_run.proofs.FitActions.{action_fits}
-use Rattle.pg_law_effects.specs.Meets.{byte_in}
 use Rattle.pg_ir.specs.declared.request.Request.{Request}
 use Rattle.pg_ir.specs.declared.request.Request.TheVariants as requests
+use Rattle.pg_run.specs.Fits.{ActionFits}
+use Rattle.pg_run.proofs.FitActions.{action_fits}
 use Rattle.pg_run_thread.specs.Step.{next}
 use Rattle.pg_run_thread.specs.Told.{id_of}
 use Rattle.pg_run_thread.specs.declared.action.Action.{Action}
 use Rattle.pg_run_thread.specs.declared.action.Action.TheVariants as actions
-use Rattle.pg_run_trace.specs.declared.step.Access.{Access}
-use Rattle.pg_run_trace.specs.declared.step.Happening.{Happening}
-use Rattle.pg_run_trace.specs.declared.step.Step.{Step}
-use Rattle.pg_run_trace.specs.declared.step.StepKind.{StepKind}
-use Rattle.pg_run_trace.specs.declared.step.StepKind.TheVariants as told
-use Rattle.pg_run_trace.specs.declared.turn.Turn.{Turn}
-use Rattle.pg_run_trace.specs.declared.turn.TurnKind.{TurnKind}
-use Rattle.pg_run_trace.specs.declared.turn.TurnKind.TheVariants as kinds
-use Rattle.pg_run_trace.specs.Kinds.{kind_of}
-use Rattle.pg_run_trace.specs.Steps.{access_kind, access_of, event_of, happening_in, turn_at}
 use Rattle.pg_law_threads.specs.Effects.{deeds}
-use Rattle.pg_law_threads.specs.Intervals.{Timed, timed}
-use Rattle.pg_law_runs.specs.Deeds.{Did, is_event_at, owners_of}
-use Rattle.pg_law_course.specs.Course.{cells_before, turns_before}
+use Rattle.pg_law_runs.specs.Deeds.{Did, is_event_at}
+use Rattle.pg_law_course.specs.Course.{cells_before, course, shared_in, state_at, turns_before}
 use Rattle.pg_law_course.specs.Plan.{is_shared}
-use Rattle.pg_law_course.specs.Steps.{Accessed, access_by, accessed, answer_by, happening_by, made_by, number_in, writes_by}
+use Rattle.pg_law_course.specs.Steps.{answer_by, made_by, number_in, thread_named, word_in}
+use Rattle.pg_law_course.proofs.CoursePlaces.{get_length}
+use Rattle.pg_run_trace.specs.Steps.{event_of}
+use Rattle.pg_words.specs.Calls.{NoSlot}
 use Rattle.pg_seats.specs.declared.run.Run.{Run}
 use Rattle.pg_seats.specs.declared.run.Standing.{Standing}
+use Rattle.pg_seats.specs.declared.run.View.{View}
 use Rattle.pg_seats.specs.declared.run.View.TheVariants as views
-use Rattle.pg_seats.specs.Views.{bit, fits, has_number, has_store, has_word, is_due, is_number, is_turn, is_write, kind_leaves, leaves_word, may_advance, may_put, may_read, may_say, needs, next_of, number_there, reads_at, says, with_part, writes_at}
+use Rattle.pg_seats.specs.Plan.{IsEnforced}
+use Rattle.pg_seats.specs.Steps.{StandsBefore, action_of, parts_of, run_cells}
+use Rattle.pg_seats.specs.Views.{fits, is_due, is_turn, may_advance, may_hear, may_put, may_read, may_say, number_there, seen_of, with_part, word_there}
+use Rattle.pg_seats.proofs.ThreadSteps as seats
 use Rattle.pg_worker.specs.declared.worker.Worker.{Worker}
-use Rattle.pg_worker.specs.Standing.{IsAnswered, IsAt, IsDue, IsSeatAt, answer_at, is_bare, is_now, next_turn_of, stands_at_event}
-use Rattle.pg_worker.proofs.DueTurns.{due_event, due_step, due_there, number_is, same_next, shared_event, some_number}
+use Rattle.pg_worker.specs.Standing.{IsAnswered, IsAt, IsDue, IsSeatAt, TookTurn, is_bare, is_now, looks_of, next_turn_of, stands_at_event}
+use Rattle.pg_worker.proofs.DueTurns.{due_event, due_step, number_is, same_next, shared_event, some_number}
 use Rattle.pg_worker.proofs.NextSteps.{HasStep}
-use Rattle.pg_worker.proofs.PlainSteps.{its_number, tells_read, tells_write}
 
--- ---- the parts of a turn, by its kind and its action
+-- a worker whose next turn is due, with so many parts of it done
+pub record IsTurnDue (r : Run) (table : TableId) (parts : ℕ) (a : Worker) : Type 0 where
+  pub at : IsAt r table parts a
+  pub turn : a.done < length a.turns.items
+  pub event : stands_at_event r a.fiber ≡ true
+  pub due : IsDue a
 
-by_kind : (x : Step) (u : Turn) (k : StepKind) → turn_at x (happening_in k) ≡ Some u → leaves_word k ≡ kind_leaves u.kind
-by_kind x u told.Other e = absurd cc
-by_kind x u (told.Branch n) e = absurd cc
-by_kind x u (told.Allocation m n) e = absurd cc
-by_kind x u (told.Event v) e = let same : turn_at x (happening_in (told.Event v)) ≡ Some u = e in of_turn (record { thread = x.thread; instr = x.instr; kind = v.kind; object = v.object }) u same
-  where
-    of_turn : (a b : Turn) → Some a ≡ Some b → kind_leaves a.kind ≡ kind_leaves b.kind
-    of_turn a b q = let s : a ≡ b = cc in ap (λ (c : Turn). kind_leaves c.kind) s
-by_kind x u (told.Access a) e = by_event a.event refl e
-  where
-    of_access : (w : Bool) (v : Turn) → v.kind ≡ access_kind w → false ≡ kind_leaves v.kind
-    of_access true v q = ap kind_leaves (sym q)
-    of_access false v q = ap kind_leaves (sym q)
+module _ {r : Run} {table : TableId} {a : Worker} (at : IsAt r table 0 a) (turn : a.done < length a.turns.items) (due : IsDue a) where
+  pub turn_due : stands_at_event r a.fiber ≡ true → IsTurnDue r table 0 a
+  turn_due event = record { at = at; turn = turn; event = event; due = due }
 
-    some_turn : (v w : Turn) → Some v ≡ Some w → v ≡ w
-    some_turn v w q = cc
+  pub event_due : {q : Request} → next r.program a.fiber ≡ actions.Event q → IsTurnDue r table 0 a
+  event_due e = turn_due (ap (is_event_at r.schedule.gated (id_of a.fiber)) e)
 
-    by_event : (b : Bool) → a.event ≡ b → turn_at x (happening_in (told.Access a)) ≡ Some u → false ≡ kind_leaves u.kind
-    by_event true q k = of_access a.writes u (ap (λ (v : Turn). v.kind) (sym (some_turn _ u (subst (λ (b : Bool). turn_at x (if b then Some (record { kind = access_kind a.writes; object = byte_place a.pointer }) else None) ≡ Some u) q k))))
-    by_event false q k = absurd (let z : turn_at x None ≡ Some u = subst (λ (b : Bool). turn_at x (if b then Some (record { kind = access_kind a.writes; object = byte_place a.pointer }) else None) ≡ Some u) q k in cc)
+pub bare_parts : (q : Request) → is_bare q ≡ true → parts_of (actions.Event q) ≡ 0
+bare_parts requests.Start e = absurd cc
+bare_parts (requests.Exit n b) e = absurd cc
+bare_parts (requests.Create at f n) e = absurd cc
+bare_parts (requests.Join u (Some at)) e = absurd cc
+bare_parts (requests.Join u None) e = refl
+bare_parts q e = refl
 
-abbrev writes_in : Option Accessed → Bool
-writes_in None = false
-writes_in (Some a) = a.writes
+module _ {r : Run} {table : TableId} {parts : ℕ} {a : Worker} (h : IsTurnDue r table parts a) where
+  abbrev number : (g : ℕ) × (next_turn_of a ≡ Some g)
+  number = get_length a.turns.items a.done h.turn
 
-write_told : (o : Option Access) → is_write o ≡ writes_in (accessed o)
-write_told None = refl
-write_told (Some a) = refl
+  abbrev next_step : HasStep r a.thread.0 h.at.taken a.fiber
+  next_step = due_step r table parts a h.at number.0 number.1 h.event h.due
 
-same_kind : (a b : Happening) → Some a ≡ Some b → a.kind ≡ b.kind
-same_kind a b e = let s : a ≡ b = cc in ap (λ (h : Happening). h.kind) s
+  is_event : deeds.is_event next_step.step ≡ true
+  is_event = due_event r table parts a h.at number.0 number.1 h.event h.due
 
-bare_kind : (q : Request) → is_bare q ≡ true → kind_leaves (kind_of q) ≡ false
-bare_kind requests.Start e = absurd cc
-bare_kind (requests.Exit n b) e = absurd cc
-bare_kind (requests.Create at f n) e = absurd cc
-bare_kind (requests.Join u (Some at)) e = absurd cc
-bare_kind (requests.Join u None) e = refl
-bare_kind (requests.MutexInit o) e = refl
-bare_kind (requests.Lock o) e = refl
-bare_kind (requests.Trylock o) e = refl
-bare_kind (requests.Unlock o) e = refl
-bare_kind (requests.MutexDestroy o) e = refl
-bare_kind (requests.CondInit o) e = refl
-bare_kind (requests.Wait c m) e = refl
-bare_kind (requests.Wake c m) e = refl
-bare_kind (requests.Signal o) e = refl
-bare_kind (requests.Broadcast o) e = refl
-bare_kind (requests.CondDestroy o) e = refl
-bare_kind (requests.BarrierInit o n) e = refl
-bare_kind (requests.Arrive o) e = refl
-bare_kind (requests.Leave o) e = refl
-bare_kind (requests.BarrierDestroy o) e = refl
-bare_kind (requests.Out n) e = refl
-bare_kind (requests.Putchar n) e = refl
+  chosen : is_shared next_step.step ≡ true
+  chosen = shared_event next_step.step is_event
 
-bare_store : (cells : ℕ → ℕ) (made : ℕ) (q : Request) → is_bare q ≡ true → writes_in (access_by cells made (actions.Event q)) ≡ false
-bare_store cells made requests.Start e = absurd cc
-bare_store cells made (requests.Exit n b) e = absurd cc
-bare_store cells made (requests.Create at f n) e = absurd cc
-bare_store cells made (requests.Join u (Some at)) e = absurd cc
-bare_store cells made (requests.Join u None) e = refl
-bare_store cells made (requests.MutexInit o) e = refl
-bare_store cells made (requests.Lock o) e = refl
-bare_store cells made (requests.Trylock o) e = refl
-bare_store cells made (requests.Unlock o) e = refl
-bare_store cells made (requests.MutexDestroy o) e = refl
-bare_store cells made (requests.CondInit o) e = refl
-bare_store cells made (requests.Wait c m) e = refl
-bare_store cells made (requests.Wake c m) e = refl
-bare_store cells made (requests.Signal o) e = refl
-bare_store cells made (requests.Broadcast o) e = refl
-bare_store cells made (requests.CondDestroy o) e = refl
-bare_store cells made (requests.BarrierInit o n) e = refl
-bare_store cells made (requests.Arrive o) e = refl
-bare_store cells made (requests.Leave o) e = refl
-bare_store cells made (requests.BarrierDestroy o) e = refl
-bare_store cells made (requests.Out n) e = refl
-bare_store cells made (requests.Putchar n) e = refl
+  its_due : h.at.standing.due ≡ true
+  its_due = (and_parts h.at.standing.due (is_due h.at.standing number.0) (ap (λ m. is_now m.0 number.0) (sym h.at.view) ∙ h.due number.0 number.1)).0
 
--- ---- the turn that is due
+  -- what is said of the seat's run and thread is said of the worker's
+  of_seat : {A : Type 0} (f : Run → ℕ → A) → f h.at.standing.run h.at.standing.thread ≡ f r a.thread.0
+  of_seat f = ap (λ (q : Run). f q h.at.standing.thread) h.at.seat.run_is ∙ ap (f r) h.at.seat.thread
 
-module _ (r : Run) (table : TableId) (parts : ℕ) (a : Worker) (at : IsAt r table parts a) (g : ℕ) (left : next_turn_of a ≡ Some g) (event : stands_at_event r a.fiber ≡ true) (due : IsDue a) where
-  abbrev step : HasStep r a.thread.0 at.taken a.fiber
-  step = due_step r table parts a at g left event due
-
-  abbrev cells : ℕ → ℕ
-  cells = cells_before r.program r.input r.schedule a.thread.0 at.taken
-
-  abbrev made : ℕ
-  made = made_by (event_of step.step.told)
-
-  is_event : deeds.is_event step.step ≡ true
-  is_event = due_event r table parts a at g left event due
-
-  its_due : at.standing.due ≡ true
-  its_due = (and_parts at.standing.due (is_due at.standing g) (ap (λ m. is_now m.0 g) (sym at.view) ∙ due g left)).0
-
-  number : turns_before r.program r.input r.schedule a.thread.0 at.taken ≡ g
-  number = some_number _ g (sym (step.of.number is_event) ∙ number_is r table parts a at g left)
-
-  word_is : (k : TurnKind) → ((m : ℕ) → (h : Happening) × ((happening_by a.thread.0 m (next r.program a.fiber) ≡ Some h) × (h.kind ≡ k))) → has_word step.step ≡ kind_leaves k
-  word_is k happens =
-      let u = step.of.turn is_event in
-      let h = happens u.0.object in
-      by_kind step.step.told u.0 step.step.told.kind u.1 ∙ ap kind_leaves (same_kind _ h.0 (sym u.2.happens ∙ h.1.0) ∙ h.1.1)
-
-  store_is : (action : Action) → next r.program a.fiber ≡ action → has_store step.step ≡ writes_in (access_by cells made action)
-  store_is action e = write_told (access_of step.step.told) ∙ ap writes_in (step.of.access ∙ ap (access_by cells made) e)
-
-  pub all_done : (w s : Bool) → has_word step.step ≡ w → has_store step.step ≡ s → parts ≡ bit w + bit s → may_advance a.seat.me.0 ≡ true
-  all_done w s word store e = ap (λ v. may_advance v.0) at.view ∙ and_from at.standing.due _ its_due
-      (ap (fits (λ (x : Timed Did). at.standing.parts == needs x.did)) (due_there r table parts a at g left event due)
-      ∙ eq-eqb at.standing.parts (needs step.step) (at.seat.parts_done ∙ e ∙ ap (λ b. bit b + bit s) (sym word) ∙ ap (λ b. bit (has_word step.step) + bit b) (sym store)))
-
-  -- ---- turns that leave nothing
-
-  module _ (q : Request) (e : next r.program a.fiber ≡ actions.Event q) (bare : is_bare q ≡ true) (none : parts ≡ 0) where
-    pub bare_done : may_advance a.seat.me.0 ≡ true
-    bare_done = all_done false false
-        (word_is (kind_of q) (λ m. (_, (ap (happening_by a.thread.0 m) e, refl))) ∙ bare_kind q bare)
-        (store_is (actions.Event q) e ∙ bare_store cells made q bare) none
-
-    pub bare_answered : (answer reply : ℕ) → ((input : List ℤ) (c : ℕ → ℕ) (t : ℕ) → answer ≡ answer_by input c t reply (actions.Event q)) → reply ≡ slice_index r.schedule.replies g
-        → IsAnswered r table answer a
-    bare_answered answer reply h k = record {
-      parts = parts;
-      at = at;
-      answered = h r.input cells a.thread.0
-          ∙ ap (λ (n : ℕ). answer_by r.input cells a.thread.0 n (actions.Event q)) (k ∙ ap (slice_index r.schedule.replies) (sym number))
-          ∙ ap (answer_by r.input cells a.thread.0 (slice_index r.schedule.replies (turns_before r.program r.input r.schedule a.thread.0 at.taken))) (sym e);
-    }
-
-  -- ---- a load that is a turn
-
-  module _ (q : ByteRange) (e : next r.program a.fiber ≡ actions.Load q) (none : parts ≡ 0) where
-    pub read_may : may_read a.seat.me.0 q ≡ true
-    read_may = ap (λ v. may_read v.0 q) at.view ∙ and_from at.standing.due _ its_due
-        (ap (fits (λ (x : Timed Did). reads_at q (access_of x.did.told))) (due_there r table parts a at g left event due)
-        ∙ tells_read q _ (access_of step.step.told) (step.of.access ∙ ap (access_by cells made) e))
-
-    pub read_done : may_advance a.seat.me.0 ≡ true
-    read_done = all_done false false (word_is kinds.Load (λ m. (_, (ap (happening_by a.thread.0 m) e, refl)))) (store_is (actions.Load q) e) none
-
-    pub read_answered : (answer : ℕ) → answer ≡ number_there a.seat.me.0 q → IsAnswered r table answer a
-    read_answered answer h = record {
-      parts = parts;
-      at = at;
-      answered = h ∙ ap (λ v. number_there v.0 q) at.view
-          ∙ its_number r a.thread.0 at.taken parts a.fiber step at.enforced at.standing at.seat (shared_event step.step is_event) q
-          ∙ ap (answer_by r.input cells a.thread.0 (slice_index r.schedule.replies (turns_before r.program r.input r.schedule a.thread.0 at.taken))) (sym e);
-    }
-
-  -- ---- a store that is a turn
-
-  module _ (q : ByteRange) (m : ℕ) (e : next r.program a.fiber ≡ actions.Store q m) where
-    store_word : has_word step.step ≡ false
-    store_word = word_is kinds.Store (λ k. (_, (ap (happening_by a.thread.0 k) e, refl)))
-
-    pub put_may : parts ≡ 0 → may_put a.seat.me.0 q m ≡ true
-    put_may none = ap (λ v. may_put v.0 q m) at.view ∙ and_from at.standing.due _ its_due
-        (ap (fits (λ (x : Timed Did). (at.standing.parts == bit (has_word x.did)) && (writes_at q (access_of x.did.told) && has_number m (access_of x.did.told)))) (due_there r table parts a at g left event due)
-        ∙ and_from (at.standing.parts == bit (has_word step.step)) _ (eq-eqb at.standing.parts (bit (has_word step.step)) (at.seat.parts_done ∙ none ∙ ap bit (sym store_word)))
-        (tells_write q m (access_of step.step.told) (step.of.access ∙ ap (access_by cells made) e)))
-
-    pub put_small : m < 2 ^ (8 * q.bytes)
-    put_small = subst (ActionFits r.program) e (action_fits r.program a.fiber at.enforced.can.program at.of)
-
-    pub put_done : parts ≡ 1 → may_advance a.seat.me.0 ≡ true
-    put_done one = all_done false true store_word (store_is (actions.Store q m) e) one
-
-    pub put_answered : IsAnswered r table 0 a
-    put_answered = record {
-      parts = parts;
-      at = at;
-      answered = ap (answer_by r.input cells a.thread.0 (slice_index r.schedule.replies (turns_before r.program r.input r.schedule a.thread.0 at.taken))) (sym e);
-    }
-
-  -- ---- an exit
-
-  module _ (m : ℕ) (is_return : Bool) (e : next r.program a.fiber ≡ actions.Event (requests.Exit m is_return)) where
-    exit_word : has_word step.step ≡ true
-    exit_word = word_is kinds.Exit (λ k. (_, (ap (happening_by a.thread.0 k) e, refl)))
-
-    exit_writes : step.step.writes (MEMORY_BYTES + a.thread.0) ≡ Some m
-    exit_writes = step.of.writes (MEMORY_BYTES + a.thread.0) ∙ ap (λ x. writes_by cells a.thread.0 made x (MEMORY_BYTES + a.thread.0)) e
-        ∙ ap (λ b. if b then byte_in None (MEMORY_BYTES + a.thread.0) else if a.thread.0 == (MEMORY_BYTES + a.thread.0 - MEMORY_BYTES) then Some m else None) (false_from_ne_true (nat_lt (MEMORY_BYTES + a.thread.0) MEMORY_BYTES)
-        (λ lt. (let k = ltb-true (MEMORY_BYTES + a.thread.0) MEMORY_BYTES lt in omega (arith, k))))
-        ∙ ap (λ b. if b then Some m else None) (eq-eqb a.thread.0 (MEMORY_BYTES + a.thread.0 - MEMORY_BYTES) (omega arith))
-
-    pub exit_may : parts ≡ 0 → may_say a.seat.me.0 a.thread.0 m ≡ true
-    exit_may none = ap (λ v. may_say v.0 a.thread.0 m) at.view ∙ and_from at.standing.due _ its_due
-        (ap (fits (λ (x : Timed Did). (at.standing.parts == 0) && says a.thread.0 m x.did)) (due_there r table parts a at g left event due)
-        ∙ and_from (at.standing.parts == 0) _ (eq-eqb at.standing.parts 0 (at.seat.parts_done ∙ none))
-        (and_from (has_word step.step) _ exit_word (ap (is_number m) exit_writes ∙ eq-eqb m m refl)))
-
-    pub exit_inside : a.thread.0 < THREAD_LIMIT
-    exit_inside = step.of.thread
-
-    pub exit_done : parts ≡ 1 → may_advance a.seat.me.0 ≡ true
-    exit_done one = all_done true false exit_word (store_is (actions.Event (requests.Exit m is_return)) e) one
-
-    pub exit_answered : (reply : ℕ) → reply ≡ slice_index r.schedule.replies g → IsAnswered r table reply a
-    exit_answered reply k = record {
-      parts = parts;
-      at = at;
-      answered = k ∙ ap (slice_index r.schedule.replies) (sym number)
-          ∙ ap (answer_by r.input cells a.thread.0 (slice_index r.schedule.replies (turns_before r.program r.input r.schedule a.thread.0 at.taken))) (sym e);
-    }
-
--- ---- the worker once its seat has read a word, or has done a part of the turn
-
-module _ (r : Run) (table : TableId) (parts : ℕ) (a m : Worker) (at : IsAt r table parts a) (same : m ≡ record a { seat = m.seat }) (own : m.seat.table_id ≡ a.seat.table_id) where
-  at_seat : (done : ℕ) (w : Standing) → m.seat.me ≡ (views.Worker w, []) → IsSeatAt r a.thread.0 at.taken done w → w.seen ≡ at.standing.seen → IsAt r table done (record a { seat = m.seat })
-  at_seat done w view seat seen = record {
-    enforced = at.enforced;
-    taken = at.taken;
-    standing = w;
-    own = own ∙ at.own;
-    view = view;
-    seat = seat;
-    local = at.local;
-    of = at.of;
-    steps = at.steps;
-    turns = at.turns;
-    turns_done = at.turns_done;
-    behind = λ i q lt e. subst (λ (n : ℕ). q < n) (sym seen) (at.behind i q lt e);
-    prints = at.prints;
-    few = at.few;
-    room = at.room;
-    value = at.value;
-    marked = at.marked;
+  stands : StandsBefore h.at.standing h.at.taken a.fiber next_step.step
+  stands = record {
+    run_is = subst IsEnforced (sym h.at.seat.run_is) h.at.enforced;
+    step = of_seat (λ q t. slice_get (course q.program q.input q.schedule t) h.at.taken) ∙ next_step.there;
+    local = of_seat (λ q t. state_at q.program q.input q.schedule t h.at.taken) ∙ h.at.local;
+    done = h.at.seat.done ∙ sym (of_seat (λ q t. shared_in q.program q.input q.schedule t h.at.taken));
   }
 
-  turn_same : next_turn_of m ≡ next_turn_of a
-  turn_same = ap next_turn_of same
+  abbrev cells : ℕ → ℕ
+  cells = cells_before r.program r.input r.schedule a.thread.0 h.at.taken
 
-  pub kept_at : m.seat.me ≡ a.seat.me → IsAt r table parts m
-  kept_at view = subst (IsAt r table parts) (sym same) (at_seat parts at.standing (view ∙ at.view) at.seat refl)
+  word_is : (t : ℕ) → word_there a.seat.me.0 t ≡ run_cells h.at.standing h.at.taken (MEMORY_BYTES + t)
+  word_is t = ap (λ v. word_there v.0 t) h.at.view ∙ seats.word h.at.standing h.at.taken a.fiber next_step.step stands chosen t
 
-  pub kept_due : IsDue a → m.seat.me ≡ a.seat.me → IsDue m
-  kept_due due view g e = ap (λ v. is_now v.0 g) view ∙ due g (sym turn_same ∙ e)
+  number_is_there : (q : ByteRange) → number_there a.seat.me.0 q ≡ number_in cells q
+  number_is_there q = ap (λ v. number_there v.0 q) h.at.view ∙ seats.number h.at.standing h.at.taken a.fiber next_step.step stands chosen q
+      ∙ of_seat (λ e t. number_in (cells_before e.program e.input e.schedule t h.at.taken) q)
 
-  abbrev with_one : Standing
-  with_one = record { run = at.standing.run; thread = at.standing.thread; done = at.standing.done; due = at.standing.due; parts = suc at.standing.parts; seen = at.standing.seen; looks = at.standing.looks }
+  -- ---- the turn with this action
 
-  part_view : m.seat.me ≡ (with_part a.seat.me.0, a.seat.me.1) → m.seat.me ≡ (views.Worker with_one, [])
-  part_view view = view ∙ ap (λ v. (with_part v.0, v.1)) at.view
+  module _ (action : Action) (e : next r.program a.fiber ≡ action) where
+    asks : action_of h.at.standing a.fiber ≡ action
+    asks = ap (λ (q : Run). next q.program a.fiber) h.at.seat.run_is ∙ e
 
-  pub part_at : m.seat.me ≡ (with_part a.seat.me.0, a.seat.me.1) → IsAt r table (suc parts) m
-  part_at view = subst (IsAt r table (suc parts)) (sym same) (at_seat (suc parts) with_one (part_view view)
-      (record { run_is = at.seat.run_is; thread = at.seat.thread; parts_done = ap suc at.seat.parts_done; done = at.seat.done }) refl)
+    pub all_done : parts ≡ parts_of action → may_advance a.seat.me.0 ≡ true
+    all_done n = ap (λ v. may_advance v.0) h.at.view
+        ∙ seats.end h.at.standing h.at.taken a.fiber next_step.step stands is_event its_due (h.at.seat.parts_done ∙ n ∙ ap parts_of (sym asks))
 
-  pub part_due : IsDue a → m.seat.me ≡ (with_part a.seat.me.0, a.seat.me.1) → IsDue m
-  part_due due view g e = ap (λ v. is_now v.0 g) (part_view view)
-      ∙ ap (λ o. at.standing.due && fits (is_turn g) o) (same_next at.standing at.standing.due (suc at.standing.parts) at.standing.seen at.standing.looks)
-      ∙ ap (λ v. is_now v.0 g) (sym at.view) ∙ due g (sym turn_same ∙ e)
+    answered_by : (answer : ℕ) → answer ≡ answer_by r.input cells a.thread.0 (slice_index r.schedule.replies (turns_before r.program r.input r.schedule a.thread.0 h.at.taken)) action
+        → IsAnswered r table answer a
+    answered_by answer f = record {
+      parts = parts;
+      at = h.at;
+      answered = f ∙ ap (answer_by r.input cells a.thread.0 (slice_index r.schedule.replies (turns_before r.program r.input r.schedule a.thread.0 h.at.taken))) (sym e);
+    }
+
+  turn_number : turns_before r.program r.input r.schedule a.thread.0 h.at.taken ≡ number.0
+  turn_number = some_number _ number.0 (sym (next_step.of.number is_event) ∙ number_is r table parts a h.at number.0 number.1)
+
+  -- it goes on with the schedule's reply, or with what the action makes of that
+  pub replied : (action : Action) → next r.program a.fiber ≡ action → (reply answer : ℕ) → ((g : ℕ) → next_turn_of a ≡ Some g → reply ≡ slice_index r.schedule.replies g)
+      → ((xs : List ℤ) (c : ℕ → ℕ) (t : ℕ) → answer ≡ answer_by xs c t reply action) → IsAnswered r table answer a
+  replied action e reply answer given f = answered_by action e answer (f r.input cells a.thread.0
+      ∙ ap (λ (n : ℕ). answer_by r.input cells a.thread.0 n action) (given number.0 number.1 ∙ ap (slice_index r.schedule.replies) (sym turn_number)))
+
+  pub thread_inside : a.thread.0 < THREAD_LIMIT
+  thread_inside = next_step.of.thread
+
+  names : (action : Action) → next r.program a.fiber ≡ action → IfSome (thread_named (made_by (event_of next_step.step.told)) action) (λ (u : ℕ). u < THREAD_LIMIT)
+  names action e = subst (λ x. IfSome (thread_named (made_by (event_of next_step.step.told)) x) (λ (u : ℕ). u < THREAD_LIMIT)) e next_step.of.named
+
+  its_fit : (action : Action) → next r.program a.fiber ≡ action → ActionFits r.program action
+  its_fit action e = subst (ActionFits r.program) e (action_fits r.program a.fiber h.at.enforced.can.program h.at.of)
+
+  -- ---- a load and a store
+
+  pub read_may : (q : ByteRange) → next r.program a.fiber ≡ actions.Load q → may_read a.seat.me.0 q ≡ true
+  read_may q e = ap (λ v. may_read v.0 q) h.at.view ∙ seats.read h.at.standing h.at.taken a.fiber next_step.step stands q (asks (actions.Load q) e) its_due
+
+  pub read_answered : (q : ByteRange) → next r.program a.fiber ≡ actions.Load q → (answer : ℕ) → answer ≡ number_there a.seat.me.0 q → IsAnswered r table answer a
+  read_answered q e answer f = answered_by (actions.Load q) e answer (f ∙ number_is_there q)
+
+  module _ (q : ByteRange) (m : ℕ) (e : next r.program a.fiber ≡ actions.Store q m) where
+    pub put_may : parts ≡ 0 → may_put a.seat.me.0 q m ≡ true
+    put_may n = ap (λ v. may_put v.0 q m) h.at.view
+        ∙ seats.gated_store h.at.standing h.at.taken a.fiber next_step.step stands q m (asks (actions.Store q m) e) is_event its_due (h.at.seat.parts_done ∙ n)
+
+    pub put_small : m < 2 ^ (8 * q.bytes)
+    put_small = its_fit (actions.Store q m) e
+
+    pub put_answered : IsAnswered r table 0 a
+    put_answered = answered_by (actions.Store q m) e 0 refl
+
+  -- ---- a start and an exit
+
+  pub start_may : next r.program a.fiber ≡ actions.Event requests.Start → parts ≡ 0 → may_hear a.seat.me.0 a.thread.0 ≡ true
+  start_may e n = ap (λ v. may_hear v.0 a.thread.0) h.at.view ∙ ap (may_hear (views.Worker h.at.standing)) (sym h.at.seat.thread)
+      ∙ seats.start h.at.standing h.at.taken a.fiber next_step.step stands (asks (actions.Event requests.Start) e) its_due (h.at.seat.parts_done ∙ n)
+
+  pub start_answered : next r.program a.fiber ≡ actions.Event requests.Start → (answer : ℕ) → answer ≡ word_there a.seat.me.0 a.thread.0 → IsAnswered r table answer a
+  start_answered e answer f = answered_by (actions.Event requests.Start) e answer (f ∙ word_is a.thread.0
+      ∙ of_seat (λ q t. word_in (cells_before q.program q.input q.schedule t h.at.taken) a.thread.0))
+
+  pub exit_may : (m : ℕ) (b : Bool) → next r.program a.fiber ≡ actions.Event (requests.Exit m b) → parts ≡ 0 → may_say a.seat.me.0 a.thread.0 m ≡ true
+  exit_may m b e n = ap (λ v. may_say v.0 a.thread.0 m) h.at.view ∙ ap (λ (t : ℕ). may_say (views.Worker h.at.standing) t m) (sym h.at.seat.thread)
+      ∙ seats.exit h.at.standing h.at.taken a.fiber next_step.step stands m b (asks (actions.Event (requests.Exit m b)) e) its_due (h.at.seat.parts_done ∙ n)
+
+  -- ---- a create
+
+  module _ (q : ByteRange) (f n made : ℕ) (e : next r.program a.fiber ≡ actions.Event (requests.Create q f n))
+      (given : (g : ℕ) → next_turn_of a ≡ Some g → made ≡ made_by (slice_get r.schedule.turns g)) where
+    made_is : made ≡ made_by (event_of next_step.step.told)
+    made_is = let u = next_step.of.turn is_event in given number.0 number.1 ∙ ap made_by (ap (slice_get r.schedule.turns) (sym turn_number) ∙ u.2.is_there ∙ sym u.1)
+
+    pub made_inside : made < THREAD_LIMIT
+    made_inside = subst (λ (i : ℕ). i < THREAD_LIMIT) (sym made_is) (names (actions.Event (requests.Create q f n)) e)
+
+    pub create_may : parts ≡ 0 → may_say a.seat.me.0 made n ≡ true
+    create_may none = ap (λ v. may_say v.0 made n) h.at.view ∙ ap (λ (i : ℕ). may_say (views.Worker h.at.standing) i n) made_is
+        ∙ seats.create h.at.standing h.at.taken a.fiber next_step.step stands q f n (asks (actions.Event (requests.Create q f n)) e) its_due (h.at.seat.parts_done ∙ none)
+
+    pub create_put : parts ≡ 1 → may_put a.seat.me.0 q made ≡ true
+    create_put one = ap (λ v. may_put v.0 q made) h.at.view ∙ ap (may_put (views.Worker h.at.standing) q) made_is
+        ∙ seats.create_store h.at.standing h.at.taken a.fiber next_step.step stands q f n (asks (actions.Event (requests.Create q f n)) e) its_due (h.at.seat.parts_done ∙ one)
+
+    pub create_small : made < 2 ^ (8 * q.bytes)
+    create_small = subst (λ (i : ℕ). made < 2 ^ (8 * i)) (sym (its_fit (actions.Event (requests.Create q f n)) e).1) (let i = made_inside in omega (arith, i))
+
+  -- ---- a join with a place
+
+  module _ (u : ℕ) (q : ByteRange) (e : next r.program a.fiber ≡ actions.Event (requests.Join u (Some q))) where
+    pub join_inside : u < THREAD_LIMIT
+    join_inside = names (actions.Event (requests.Join u (Some q))) e
+
+    pub join_may : parts ≡ 0 → may_hear a.seat.me.0 u ≡ true
+    join_may none = ap (λ v. may_hear v.0 u) h.at.view
+        ∙ seats.join h.at.standing h.at.taken a.fiber next_step.step stands u q (asks (actions.Event (requests.Join u (Some q))) e) its_due (h.at.seat.parts_done ∙ none)
+
+    pub join_put : parts ≡ 0 → (m : ℕ) → m ≡ word_there a.seat.me.0 u → may_put a.seat.me.0 q m ≡ true
+    join_put none m is = ap (λ v. may_put v.0 q m) h.at.view ∙ ap (may_put (views.Worker h.at.standing) q) (is ∙ word_is u)
+        ∙ seats.join_store h.at.standing h.at.taken a.fiber next_step.step stands u q (asks (actions.Event (requests.Join u (Some q))) e) its_due (h.at.seat.parts_done ∙ none)
+
+    pub join_small : (m : ℕ) → m < 2 ^ 64 → m < 2 ^ (8 * q.bytes)
+    join_small m low = subst (λ (i : ℕ). m < 2 ^ (8 * i)) (sym (its_fit (actions.Event (requests.Join u (Some q))) e)) low
+
+  -- ---- the worker once its seat has read a word or done a part of the turn
+
+  module _ (seat : Seat NoSlot View) (own : seat.table_id ≡ a.seat.table_id) where
+    at_seat : (done : ℕ) (w : Standing) → seat.me ≡ (views.Worker w, []) → IsSeatAt r a.thread.0 h.at.taken done w → w.seen ≡ h.at.standing.seen → IsAt r table done (record a { seat = seat })
+    at_seat done w view place seen = record {
+      enforced = h.at.enforced;
+      taken = h.at.taken;
+      standing = w;
+      own = own ∙ h.at.own;
+      view = view;
+      seat = place;
+      local = h.at.local;
+      of = h.at.of;
+      steps = h.at.steps;
+      turns = h.at.turns;
+      turns_done = h.at.turns_done;
+      behind = λ i q lt e. subst (λ (n : ℕ). q < n) (sym seen) (h.at.behind i q lt e);
+      prints = h.at.prints;
+      few = h.at.few;
+      room = h.at.room;
+      value = h.at.value;
+      marked = h.at.marked;
+    }
+
+    -- a turn that was taken from there was taken from a
+    took_seat : (w : Standing) → seat.me ≡ (views.Worker w, []) → w.seen ≡ h.at.standing.seen → w.looks ≡ h.at.standing.looks
+        → (b : Worker) → TookTurn (record a { seat = seat }) b → TookTurn a b
+    took_seat w view seen looks b took = record {
+      turn = took.turn;
+      took = record {
+        one = took.took.one;
+        went = record {
+          thread = took.took.went.thread;
+          turns = took.took.went.turns;
+          done = took.took.went.done;
+          left = took.took.went.left;
+          seen = subst (λ (n : ℕ). n ≤ seen_of b.seat.me.0) (ap (λ m. seen_of m.0) view ∙ seen ∙ ap (λ m. seen_of m.0) (sym h.at.view)) took.took.went.seen;
+          looks = subst (λ (n : ℕ). n ≤ looks_of b.seat.me.0) (ap (λ m. looks_of m.0) view ∙ looks ∙ ap (λ m. looks_of m.0) (sym h.at.view)) took.took.went.looks;
+        };
+      };
+    }
+
+    module _ (view : seat.me ≡ a.seat.me) where
+      pub kept : IsTurnDue r table parts (record a { seat = seat })
+      kept = record {
+        at = at_seat parts h.at.standing (view ∙ h.at.view) h.at.seat refl;
+        turn = h.turn;
+        event = h.event;
+        due = λ g e. ap (λ v. is_now v.0 g) view ∙ h.due g e;
+      }
+
+      pub kept_took : (b : Worker) → TookTurn (record a { seat = seat }) b → TookTurn a b
+      kept_took = took_seat h.at.standing (view ∙ h.at.view) refl refl
+
+    abbrev with_one : Standing
+    with_one = record { run = h.at.standing.run; thread = h.at.standing.thread; done = h.at.standing.done; due = h.at.standing.due; parts = suc h.at.standing.parts; seen = h.at.standing.seen; looks = h.at.standing.looks }
+
+    module _ (view : seat.me ≡ (with_part a.seat.me.0, a.seat.me.1)) where
+      part_view : seat.me ≡ (views.Worker with_one, [])
+      part_view = view ∙ ap (λ v. (with_part v.0, v.1)) h.at.view
+
+      pub put : IsTurnDue r table (suc parts) (record a { seat = seat })
+      put = record {
+        at = at_seat (suc parts) with_one part_view
+            (record { run_is = h.at.seat.run_is; thread = h.at.seat.thread; parts_done = ap suc h.at.seat.parts_done; done = h.at.seat.done }) refl;
+        turn = h.turn;
+        event = h.event;
+        due = λ g e. ap (λ v. is_now v.0 g) part_view
+            ∙ ap (λ o. h.at.standing.due && fits (is_turn g) o) (same_next h.at.standing h.at.standing.due (suc h.at.standing.parts) h.at.standing.seen h.at.standing.looks)
+            ∙ ap (λ v. is_now v.0 g) (sym h.at.view) ∙ h.due g e;
+      }
+
+      pub put_took : (b : Worker) → TookTurn (record a { seat = seat }) b → TookTurn a b
+      put_took = took_seat with_one part_view refl refl

@@ -15,11 +15,11 @@ use pg_run_thread::Action;
 use pg_seats::{accesses, turns};
 
 /// The answer to a request that reads and leaves nothing, by the schedule's reply.
-fn answer_to(request: Request, reply: u64) -> u64
-    requires { is_bare request ≡ true }
-    ensures { (input : List ℤ) (cells : ℕ → ℕ) (t : ℕ) → result ≡ answer_by input cells t reply (actions.Event request) }
+fn answer_to(request: &Request, reply: u64) -> u64
+    requires { is_bare request.now ≡ true }
+    ensures { (input : List ℤ) (cells : ℕ → ℕ) (t : ℕ) → result ≡ answer_by input cells t reply (actions.Event request.now) }
 {
-    match request {
+    match *request {
         Request::Putchar { value } => value % 256,
         _ => reply,
     }
@@ -69,7 +69,6 @@ impl Worker {
         ensures at { IsAt (run_in shared.now) (table_in shared.now) 0 self.new }
         ensures took { TookTurn self.old self.new }
     {
-        let _turn = self.next_turn();
         let number = accesses::load_due(&shared.words, &mut self.seat, at);
         self.end_turn(shared, Action::Load(at), number);
     }
@@ -85,7 +84,6 @@ impl Worker {
         ensures at { IsAt (run_in shared.now) (table_in shared.now) 0 self.new }
         ensures took { TookTurn self.old self.new }
     {
-        let _turn = self.next_turn();
         accesses::store_due(&shared.words, &mut self.seat, at, number);
         self.end_turn(shared, Action::Store(at, number), 0);
     }
@@ -114,11 +112,13 @@ impl Worker {
         ensures at { IsAt (run_in shared.now) (table_in shared.now) 0 self.new }
         ensures took { TookTurn self.old self.new }
     {
-        let _turn = self.next_turn();
         turns::put_word(&shared.words, &mut self.seat, self.thread, value);
         let reply = self.reply(shared);
-        let action = Action::Event(Request::Exit { value, is_return });
-        self.end_turn(shared, action, reply);
+        self.end_turn(
+            shared,
+            Action::Event(Request::Exit { value, is_return }),
+            reply,
+        );
     }
 
     /// A create, which leaves the new thread's argument and stores its number.
@@ -140,12 +140,15 @@ impl Worker {
         );
         accesses::store_due(&shared.words, &mut self.seat, at, made);
         let reply = self.reply(shared);
-        let action = Action::Event(Request::Create {
-            at,
-            function,
-            argument,
-        });
-        self.end_turn(shared, action, reply);
+        self.end_turn(
+            shared,
+            Action::Event(Request::Create {
+                at,
+                function,
+                argument,
+            }),
+            reply,
+        );
     }
 
     /// A join with a place, which stores the value of the thread that it joins.
@@ -161,11 +164,14 @@ impl Worker {
         let value = turns::get_word(&shared.words, &mut self.seat, ThreadNo(target as u8));
         accesses::store_due(&shared.words, &mut self.seat, at, value);
         let reply = self.reply(shared);
-        let action = Action::Event(Request::Join {
-            target,
-            at: Some(at),
-        });
-        self.end_turn(shared, action, reply);
+        self.end_turn(
+            shared,
+            Action::Event(Request::Join {
+                target,
+                at: Some(at),
+            }),
+            reply,
+        );
     }
 
     /// A turn that leaves no word and stores nothing.
@@ -179,9 +185,8 @@ impl Worker {
         ensures at { IsAt (run_in shared.now) (table_in shared.now) 0 self.new }
         ensures took { TookTurn self.old self.new }
     {
-        let _turn = self.next_turn();
         let reply = self.reply(shared);
-        let answer = answer_to(request, reply);
+        let answer = answer_to(&request, reply);
         self.end_turn(shared, Action::Event(request), answer);
     }
 
