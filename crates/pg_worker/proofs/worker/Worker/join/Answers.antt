@@ -1,23 +1,27 @@
-use Rattle.std.proofs.Common.{◌∙◌, Some, ap, arith, refl, sym}
+use Rattle.std.proofs.Common.{ℕ, ◌<◌, ◌∙◌, Some, ap, arith, refl, subst, sym}
+use Rattle.pg_num.specs.declared.limits.TheConstants.{THREAD_LIMIT}
 use Rattle.pg_run_thread.specs.declared.action.Action.TheVariants as actions
 use Rattle.pg_ir.specs.declared.request.Request.TheVariants as requests
 use Rattle.pg_run_thread.specs.Told.{id_of}
 use Rattle.pg_law_runs.specs.Deeds.{is_event_at}
-use Rattle.pg_seats.specs.Views.{word_there}
+use Rattle.pg_seats.specs.Views.{may_hear, word_there}
 use Rattle.pg_worker.proofs.TurnKinds.{IsTurnDue, all_done, event_due, join_inside, join_may, join_put, join_small, kept, kept_took, put, put_took, replied}
 use Rattle.pg_worker.proofs.worker.Worker.join.Goals as goal
 
+pub thread_of-thread-requires-clause-inside : goal.thread_of-thread-requires-clause-inside
+thread_of-thread-requires-clause-inside c = join_inside (event_due c.requires.at c.requires.turn c.requires.due c.requires.next) c.args.target c.args.at c.requires.next
+
 pub get_word-value-requires-clause-inside : goal.get_word-value-requires-clause-inside
-get_word-value-requires-clause-inside c = join_inside (event_due c.requires.at c.requires.turn c.requires.due c.requires.next) c.args.target c.args.at c.requires.next
+get_word-value-requires-clause-inside c = subst (λ (i : ℕ). i < THREAD_LIMIT) (sym c.thread_of-thread.ensures) (join_inside (event_due c.requires.at c.requires.turn c.requires.due c.requires.next) c.args.target c.args.at c.requires.next)
 
 pub get_word-value-requires-clause-next : goal.get_word-value-requires-clause-next
-get_word-value-requires-clause-next c = join_may (event_due c.requires.at c.requires.turn c.requires.due c.requires.next) c.args.target c.args.at c.requires.next refl
+get_word-value-requires-clause-next c = ap (may_hear c.args.self.now.seat.me.0) c.thread_of-thread.ensures ∙ join_may (event_due c.requires.at c.requires.turn c.requires.due c.requires.next) c.args.target c.args.at c.requires.next refl
 
 pub store_due-requires-clause-small : goal.store_due-requires-clause-small
 store_due-requires-clause-small c = join_small (event_due c.requires.at c.requires.turn c.requires.due c.requires.next) c.args.target c.args.at c.requires.next c.get_word-value.result (omega (arith, c.get_word-value.type_inv))
 
 pub store_due-requires-clause-next : goal.store_due-requires-clause-next
-store_due-requires-clause-next c = join_put (kept (event_due c.requires.at c.requires.turn c.requires.due c.requires.next) c.get_word-value.new.seat c.get_word-value.ensures.own.0 c.get_word-value.ensures.view) c.args.target c.args.at c.requires.next refl c.get_word-value.result (c.get_word-value.ensures.value ∙ ap (λ v. word_there v.0 c.args.target) (sym c.get_word-value.ensures.view))
+store_due-requires-clause-next c = join_put (kept (event_due c.requires.at c.requires.turn c.requires.due c.requires.next) c.get_word-value.new.seat c.get_word-value.ensures.own.0 c.get_word-value.ensures.view) c.args.target c.args.at c.requires.next refl c.get_word-value.result (c.get_word-value.ensures.value ∙ ap (word_there c.args.self.now.seat.me.0) c.thread_of-thread.ensures ∙ ap (λ v. word_there v.0 c.args.target) (sym c.get_word-value.ensures.view))
 
 pub end_turn-requires-clause-at : goal.end_turn-requires-clause-at
 end_turn-requires-clause-at c = replied (put (kept (event_due c.requires.at c.requires.turn c.requires.due c.requires.next) c.get_word-value.new.seat c.get_word-value.ensures.own.0 c.get_word-value.ensures.view) c.store_due.new.seat c.store_due.ensures.own.0 c.store_due.ensures.view) (actions.Event (requests.Join c.args.target (Some c.args.at))) c.requires.next c.reply-reply.result c.reply-reply.result c.reply-reply.ensures (λ input cells t. refl)
