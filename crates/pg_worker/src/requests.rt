@@ -214,10 +214,10 @@ impl Worker {
                 function,
                 argument,
             } => self.create(shared, at, function, argument),
-            Request::Join {
-                target,
-                at: Some(at),
-            } => self.join(shared, target, at),
+            Request::Join { target, at } => match at {
+                Some(at) => self.join(shared, target, at),
+                None => self.bare(shared, request),
+            },
             _ => self.bare(shared, request),
         }
     }
