@@ -69,6 +69,10 @@ other_bare (requests.Join u (Some at)) s e c j = absurd (j u (Some at) refl)
 other_bare (requests.Join u None) s e c j = refl
 other_bare q s e c j = refl
 
+-- and so is a join with no place
+pub none_bare : (q : Request) (u : ℕ) (at : Option ByteRange) → q ≡ requests.Join u at → at ≡ None → is_bare q ≡ true
+none_bare q u at e n = ap is_bare (e ∙ ap (requests.Join u) n)
+
 -- actions of other kinds are no events
 pub other_event : (gated : List InstrId) (id : ℕ) (x : Action) → ((q : ByteRange) → x ≡ actions.Load q → ⊥) → ((q : ByteRange) (n : ℕ) → x ≡ actions.Store q n → ⊥)
     → ((q : Request) → x ≡ actions.Event q → ⊥) → is_event_at gated id x ≡ true → ⊥

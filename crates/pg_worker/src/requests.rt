@@ -197,6 +197,7 @@ impl Worker {
     }
 
     /// The request of the turn that is due.
+    #[tactic(auto, using(crate::proofs::TurnKinds::other_bare, crate::proofs::TurnKinds::none_bare))]
     fn ask(&mut self, shared: &Shared<'_>, request: Request)
         requires at { IsAt (run_in shared.now) (table_in shared.now) 0 self.old }
         requires left { 0 < self.old.left }
@@ -206,16 +207,16 @@ impl Worker {
         ensures at { IsAt (run_in shared.now) (table_in shared.now) 0 self.new }
         ensures took { TookTurn self.old self.new }
     {
-        match request {
+        match &request {
             Request::Start => self.start(shared),
-            Request::Exit { value, is_return } => self.exit(shared, value, is_return),
+            Request::Exit { value, is_return } => self.exit(shared, *value, *is_return),
             Request::Create {
                 at,
                 function,
                 argument,
-            } => self.create(shared, at, function, argument),
+            } => self.create(shared, *at, *function, *argument),
             Request::Join { target, at } => match at {
-                Some(at) => self.join(shared, target, at),
+                Some(at) => self.join(shared, *target, *at),
                 None => self.bare(shared, request),
             },
             _ => self.bare(shared, request),

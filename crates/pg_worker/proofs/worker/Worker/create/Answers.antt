@@ -6,8 +6,8 @@ use Rattle.pg_law_runs.specs.Deeds.{is_event_at}
 use Rattle.pg_worker.proofs.TurnKinds.{IsTurnDue, all_done, create_may, create_put, create_small, event_due, made_inside, put, put_took, replied}
 use Rattle.pg_worker.proofs.worker.Worker.create.Goals as goal
 
-pub thread_of-thread-requires-clause-inside : goal.thread_of-thread-requires-clause-inside
-thread_of-thread-requires-clause-inside c = made_inside (event_due c.requires.at c.requires.turn c.requires.due c.requires.next) c.args.at c.args.function c.args.argument c.made-made.result c.requires.next c.made-made.ensures
+pub thread_of-thread-requires : goal.thread_of-thread-requires
+thread_of-thread-requires c = made_inside (event_due c.requires.at c.requires.turn c.requires.due c.requires.next) c.args.at c.args.function c.args.argument c.made-made.result c.requires.next c.made-made.ensures
 
 pub put_word-requires-clause-inside : goal.put_word-requires-clause-inside
 put_word-requires-clause-inside c = made_inside (event_due c.requires.at c.requires.turn c.requires.due c.requires.next) c.args.at c.args.function c.args.argument c.thread_of-thread.result.0 c.requires.next (λ g e. c.thread_of-thread.ensures ∙ c.made-made.ensures g e)

@@ -8,8 +8,8 @@ use Rattle.pg_seats.specs.Views.{may_hear, word_there}
 use Rattle.pg_worker.proofs.TurnKinds.{IsTurnDue, all_done, event_due, join_inside, join_may, join_put, join_small, kept, kept_took, put, put_took, replied}
 use Rattle.pg_worker.proofs.worker.Worker.join.Goals as goal
 
-pub thread_of-thread-requires-clause-inside : goal.thread_of-thread-requires-clause-inside
-thread_of-thread-requires-clause-inside c = join_inside (event_due c.requires.at c.requires.turn c.requires.due c.requires.next) c.args.target c.args.at c.requires.next
+pub thread_of-thread-requires : goal.thread_of-thread-requires
+thread_of-thread-requires c = join_inside (event_due c.requires.at c.requires.turn c.requires.due c.requires.next) c.args.target c.args.at c.requires.next
 
 pub get_word-value-requires-clause-inside : goal.get_word-value-requires-clause-inside
 get_word-value-requires-clause-inside c = subst (λ (i : ℕ). i < THREAD_LIMIT) (sym c.thread_of-thread.ensures) (join_inside (event_due c.requires.at c.requires.turn c.requires.due c.requires.next) c.args.target c.args.at c.requires.next)
