@@ -77,8 +77,8 @@ module _ (r : Run) (table : TableId) (a : Worker) (at : IsAt r table 0 a) where
   pub looks_may : may_look a.seat.me.0 ≡ true
   looks_may = ap (λ m. may_look m.0) at.view
 
-  pub note_is : (noted a.seat.me.0, []) ≡ (views.Note r (seen_of a.seat.me.0), [])
-  note_is = ap (λ m. (noted m.0, [])) at.view ∙ ap (λ q. (views.Note q at.standing.seen, [])) at.seat.run_is ∙ ap (λ m. (views.Note r (seen_of m.0), [])) (sym at.view)
+  pub note_is : noted a.seat.me.0 ≡ views.Note r (seen_of a.seat.me.0)
+  note_is = ap (λ m. noted m.0) at.view ∙ ap (λ (q : Run). views.Note q at.standing.seen) at.seat.run_is ∙ ap (λ m. views.Note r (seen_of m.0)) (sym at.view)
 
   pub take_may : (v : View) (n : ℕ) → v ≡ views.Note r n → may_take a.seat.me.0 v ≡ true
   take_may v n e = ap (λ m. may_take m.0 v) at.view ∙ ap (may_take (views.Worker at.standing)) e

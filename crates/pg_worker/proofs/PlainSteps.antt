@@ -271,10 +271,10 @@ took_plain p answer a b h view =
 -- a plain access behind a mark
 pub took_marked : (p : NumberedProgram) (answer : ℕ) (a m b : Worker) → m ≡ record a { pages = m.pages } → IsResumed p answer m b → b.seat.me ≡ (went_on m.seat.me.0, m.seat.me.1) → TookOne a b
 took_marked p answer a m b same h view =
-    let t = took_plain p answer m b h view in
+    let t = subst (λ (w : Worker). TookOne w b) same (took_plain p answer m b h view) in
     record {
-      one = t.one ∙ ap (λ (w : Worker). w.left) same;
-      went = subst (λ (w : Worker). WentOn w b) same t.went;
+      one = t.one;
+      went = record { thread = t.went.thread; turns = t.went.turns; done = t.went.done; left = t.went.left; seen = t.went.seen; looks = t.went.looks };
     }
 
 -- a step of its own state is one too where only the seat was changed before it

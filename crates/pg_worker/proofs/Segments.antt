@@ -12,12 +12,14 @@ use Rattle.pg_run_thread.specs.declared.action.Action.TheVariants as actions
 use Rattle.pg_run_thread.specs.declared.advance.Advance.{Advance}
 use Rattle.pg_run_thread.specs.declared.advance.Advance.TheVariants.{Asks, Done}
 use Rattle.pg_run_thread.specs.declared.advance.LocalStep.{LocalStep}
+use Rattle.pg_worker.specs.declared.worker.Paused.{Paused}
+use Rattle.pg_worker.specs.declared.worker.Paused.TheVariants as pauses
 use Rattle.pg_worker.specs.declared.worker.Worker.{Worker}
 use Rattle.pg_run_thread.specs.Told.{id_of}
 use Rattle.pg_law_runs.specs.Deeds.{is_event_at}
 use Rattle.pg_law_course.specs.Rests.{is_trap}
 use Rattle.pg_seats.specs.declared.run.Run.{Run}
-use Rattle.pg_worker.specs.Standing.{HasToWait, IsResumed, TookOne, TookTurn, WentOn, is_end, is_stopped, waits_there}
+use Rattle.pg_worker.specs.Standing.{HasPaused, HasToWait, HasWaited, IsResumed, TookOne, TookTurn, WentOn, is_end, is_stopped, waits_there}
 use Rattle.pg_worker.proofs.DueTurns.{traps_not}
 
 -- ---- what a thread's own state asks
@@ -116,13 +118,23 @@ module _ (a b : Worker) (same : b ≡ record a { seat = b.seat }) where
     went = went_more a b c w t.took.went;
   }
 
--- it is stopped
-pub stops_spent : (p : NumberedProgram) (a : Worker) → a.left ≡ 0 → is_stopped p a ≡ true
-stops_spent p a e = go (is_trap (next p a.fiber))
+-- ---- why it pauses
+
+pub spent_pauses : (r : Run) (a : Worker) → a.done < length a.turns.items → a.left ≡ 0 → WentOn a a × HasPaused r pauses.Stopped a a
+spent_pauses r a turn e = (went_none a, (turn, go (is_trap (next r.program a.fiber))))
   where
     go : (b : Bool) → (b || (a.left == 0)) ≡ true
     go true = refl
     go false = eq-eqb a.left 0 e
 
-pub stops_trap : (p : NumberedProgram) (a b : Worker) → b ≡ a → is_trap (next p a.fiber) ≡ true → is_stopped p b ≡ true
-stops_trap p a b e h = ap (is_stopped p) e ∙ ap (λ (x : Bool). x || (a.left == 0)) h
+pub waiting_pauses : (r : Run) (a b : Worker) → a.done < length a.turns.items → HasWaited r a b → WentOn a b × HasPaused r pauses.Waiting a b
+waiting_pauses r a b turn h = (h.went, record { turn = still_turn a b h.same turn; waits = h.waits; goes = h.goes; stands = h.stands })
+
+pub trap_pauses : (r : Run) (a b : Worker) → a.done < length a.turns.items → (b ≡ a) × (is_trap (next r.program a.fiber) ≡ true) → WentOn a b × HasPaused r pauses.Stopped a b
+trap_pauses r a b turn h = subst (λ (w : Worker). WentOn a w × HasPaused r pauses.Stopped a w) (sym h.0) (went_none a, (turn, ap (λ (x : Bool). x || (a.left == 0)) h.1))
+
+-- a pause behind steps is one of the whole
+pub paused_later : (r : Run) (x : Paused) (a b c : Worker) → WentOn a b → HasPaused r x b c → HasPaused r x a c
+paused_later r pauses.Done a b c w h = h
+paused_later r pauses.Waiting a b c w h = record { turn = h.turn; waits = wait_later a b c w h.waits; goes = h.goes; stands = h.stands }
+paused_later r pauses.Stopped a b c w h = h

@@ -12,8 +12,10 @@ mod starts;
 mod steps;
 mod turn_lists;
 mod turns;
+mod unseated;
 mod worker;
 
 pub use hook::{Hook, NoHook};
 pub use shared::Shared;
+pub use unseated::Unseated;
 pub use worker::{Paused, Worker};

@@ -4,7 +4,7 @@ ghost use Rattle.std.specs.Prelude.{◌≡◌, ◌<◌, IfNone, IfSome, length, 
 ghost use Rattle.pg_run_thread.specs.States.{IsOf};
 ghost use Rattle.pg_run_thread.specs.Step.{after, next};
 ghost use Rattle.pg_run_thread.specs.declared.action.Action.TheVariants as actions;
-ghost use Rattle.pg_worker.specs.Standing.{HasDone, HasPaused, IsAt, WentOn, run_in, table_in, waits_there};
+ghost use Rattle.pg_worker.specs.Standing.{HasDone, HasPaused, IsAt, TookOne, WentOn, run_in, table_in, waits_there};
 
 use crate::hook::Hook;
 use crate::shared::Shared;
@@ -128,6 +128,26 @@ impl Worker {
         }
     }
 
+    /// Takes its next step, or says why it pauses.
+    fn go_on<H: Hook>(&mut self, shared: &Shared<'_>, hook: &H) -> Option<Paused>
+        requires at { IsAt (run_in shared.now) (table_in shared.now) 0 self.old }
+        requires gated { shared.now.gated ≡ shared.now.schedule.now.gated }
+        requires turn { self.old.done < length self.old.turns.items }
+        ensures at { IsAt (run_in shared.now) (table_in shared.now) 0 self.new }
+        ensures steps { IfNone result (TookOne self.old self.new) }
+        ensures paused { IfSome result (λ p. WentOn self.old self.new × HasPaused (run_in shared.now) p self.old self.new) }
+    {
+        if self.left == 0 {
+            return Some(Paused::Stopped);
+        }
+        hook.at_action(self.thread, self.fiber.id(), !self.fiber.has_begun());
+        match self.step(shared) {
+            Taken::Step => None,
+            Taken::Waits => Some(Paused::Waiting),
+            Taken::Traps => Some(Paused::Stopped),
+        }
+    }
+
     /// Steps until its next turn isn't due, or until it has no turn or no step left.
     pub fn segment<H: Hook>(&mut self, shared: &Shared<'_>, hook: &H) -> Paused
         requires at { IsAt (run_in shared.now) (table_in shared.now) 0 self.old }
@@ -137,14 +157,8 @@ impl Worker {
         ensures paused { HasPaused (run_in shared.now) result self.old self.new }
     {
         while self.done < self.turns.len() {
-            if self.left == 0 {
-                return Paused::Stopped;
-            }
-            hook.at_action(self.thread, self.fiber.id(), !self.fiber.has_begun());
-            match self.step(shared) {
-                Taken::Step => {}
-                Taken::Waits => return Paused::Waiting,
-                Taken::Traps => return Paused::Stopped,
+            if let Some(paused) = self.go_on(shared, hook) {
+                return paused;
             }
         }
         Paused::Done

@@ -1,23 +1,17 @@
 //! A worker, and why it pauses.
 
-ghost use Rattle.std.specs.Prelude.{◌≡◌, ◌<◌, [], IfOk, Some, length, max};
-ghost use Rattle.pg_num.specs.declared.limits.TheConstants.{THREAD_LIMIT};
+ghost use Rattle.std.specs.Prelude.{◌≡◌, ◌<◌, [], Some, length, max};
 ghost use Rattle.pg_run_thread.specs.States.{IsOf};
-ghost use Rattle.pg_seats.specs.Plan.{IsEnforced};
 ghost use Rattle.pg_seats.specs.Views.{seen_of};
 ghost use Rattle.pg_seats.specs.declared.run.View.TheVariants.{Note};
-ghost use Rattle.pg_worker.specs.Standing.{IsAt, end_by, first_view, looks_of, next_turn_of, noted_in, run_in, table_in};
+ghost use Rattle.pg_worker.specs.Standing.{IsAt, end_by, looks_of, next_turn_of, noted_in, run_in, table_in};
 
 use crate::pages::Pages;
 use crate::shared::Shared;
-use crate::starts::start_of;
-use crate::turn_lists::turns_of;
 use pg_ir::{Program, ThreadNo};
-use pg_num::limits::GUIDED_STEP_LIMIT;
 use pg_run::GuidedEnd;
 use pg_run_thread::{Action, Fiber};
 use pg_seats::{Place, seats};
-use std::alloc::{AllocError, Global};
 
 /// Runs one thread of a program along a schedule: the thread's seat at the shared words, its own state, how many steps it may still
 /// take, the numbers of its turns in the schedule, how many of these are done, the numbers that it printed, with room for all, the
@@ -58,42 +52,6 @@ pub(crate) enum Taken {
 }
 
 impl Worker {
-    /// The worker of a thread, before its first step.
-    ///
-    /// # Errors
-    ///
-    /// Where no memory is left.
-    pub fn new(
-        alloc: Global,
-        shared: &Shared<'_>,
-        seat: Place,
-        thread: ThreadNo,
-    ) -> Result<Worker, AllocError>
-        requires enforced { IsEnforced (run_in shared.now) }
-        requires thread { thread.0 < THREAD_LIMIT }
-        requires own { seat.table_id ≡ table_in shared.now }
-        requires view { seat.me ≡ (first_view (run_in shared.now) thread.0, []) }
-        ensures at { IfOk result (IsAt (run_in shared.now) (table_in shared.now) 0) }
-        ensures first { IfOk result (λ w. (w.thread ≡ thread) × (w.done ≡ 0)) }
-    {
-        let turns = turns_of(alloc, shared.schedule.turns.as_slice(), thread)?;
-        let prints = Vec::with_capacity(alloc, turns.len())?;
-        let pages = Pages::new(alloc)?;
-        let function = start_of(shared.program, shared.schedule.turns.as_slice(), thread);
-        let fiber = Fiber::new(alloc, shared.program, thread, function)?;
-        Ok(Worker {
-            seat,
-            fiber,
-            left: GUIDED_STEP_LIMIT,
-            thread,
-            turns,
-            done: 0,
-            prints,
-            value: 0,
-            pages,
-        })
-    }
-
     /// Its thread.
     pub fn thread(&self) -> ThreadNo
         ensures { result ≡ self.now.thread }

@@ -13,13 +13,13 @@ store-requires-clause-next c = store_may (run_in c.args.shared.now) (table_in c.
 
 pub returns-clause-at : goal.returns-clause-at
 returns-clause-at c =
-    let marked = marked_at (run_in c.args.shared.now) (table_in c.args.shared.now) 0 c.args.self.now (record c.args.self.now { pages = c.mark.new.pages }) c.requires.at refl c.mark.ensures.kept in
+    let marked = marked_at (run_in c.args.shared.now) (table_in c.args.shared.now) 0 c.args.self.now (record c.args.self.now { pages = c.mark.new.self }) c.requires.at refl c.mark.ensures.kept in
     store_at (run_in c.args.shared.now) (table_in c.args.shared.now)
-    (record c.args.self.now { pages = c.mark.new.pages }) marked c.requires.left c.requires.turn c.args.at c.args.number c.requires.next c.requires.plain (c.mark.ensures.place, c.mark.ensures.marked) c.resume.new.self
-    (resumed_of c.args.shared.now.program.now 0 (record c.args.self.now { pages = c.mark.new.pages }) (record c.args.self.now { pages = c.mark.new.pages; seat = c.store.new.seat }) c.resume.new.self refl c.resume.ensures.resumed)
+    (record c.args.self.now { pages = c.mark.new.self }) marked c.requires.left c.requires.turn c.args.at c.args.number c.requires.next c.requires.plain (c.mark.ensures.place, c.mark.ensures.marked) c.resume.new.self
+    (resumed_of c.args.shared.now.program.now 0 (record c.args.self.now { pages = c.mark.new.self }) (record c.args.self.now { pages = c.mark.new.self; seat = c.store.new.seat }) c.resume.new.self refl c.resume.ensures.resumed)
     (ap (λ s. s.table_id) c.resume.ensures.seat ∙ c.store.ensures.own.0) (ap (λ s. s.me) c.resume.ensures.seat ∙ c.store.ensures.view)
 
 pub returns-clause-took : goal.returns-clause-took
-returns-clause-took c = took_marked c.args.shared.now.program.now 0 c.args.self.now (record c.args.self.now { pages = c.mark.new.pages }) c.resume.new.self refl
-    (resumed_of c.args.shared.now.program.now 0 (record c.args.self.now { pages = c.mark.new.pages }) (record c.args.self.now { pages = c.mark.new.pages; seat = c.store.new.seat }) c.resume.new.self refl c.resume.ensures.resumed)
+returns-clause-took c = took_marked c.args.shared.now.program.now 0 c.args.self.now (record c.args.self.now { pages = c.mark.new.self }) c.resume.new.self refl
+    (resumed_of c.args.shared.now.program.now 0 (record c.args.self.now { pages = c.mark.new.self }) (record c.args.self.now { pages = c.mark.new.self; seat = c.store.new.seat }) c.resume.new.self refl c.resume.ensures.resumed)
     (ap (λ s. s.me) c.resume.ensures.seat ∙ c.store.ensures.view)
