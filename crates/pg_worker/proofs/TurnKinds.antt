@@ -17,7 +17,7 @@ use Rattle.pg_run_thread.specs.Told.{id_of}
 use Rattle.pg_run_thread.specs.declared.action.Action.{Action}
 use Rattle.pg_run_thread.specs.declared.action.Action.TheVariants as actions
 use Rattle.pg_law_threads.specs.Effects.{deeds}
-use Rattle.pg_law_runs.specs.Deeds.{Did, is_event_at}
+use Rattle.pg_law_runs.specs.Deeds.{is_event_at}
 use Rattle.pg_law_course.specs.Course.{cells_before, course, shared_in, state_at, turns_before}
 use Rattle.pg_law_course.specs.Plan.{is_shared}
 use Rattle.pg_law_course.specs.Steps.{answer_by, made_by, number_in, thread_named, word_in}
