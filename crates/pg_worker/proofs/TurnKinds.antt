@@ -7,6 +7,7 @@ use Rattle.atomic_table.specs.declared.shared.Seat.{Seat}
 use Rattle.pg_num.specs.Places.{ByteRange}
 use Rattle.pg_num.specs.declared.layout.TheConstants.{MEMORY_BYTES}
 use Rattle.pg_num.specs.declared.limits.TheConstants.{THREAD_LIMIT}
+use Rattle.pg_ir.specs.declared.ids.InstrId.{InstrId}
 use Rattle.pg_ir.specs.declared.request.Request.{Request}
 use Rattle.pg_ir.specs.declared.request.Request.TheVariants as requests
 use Rattle.pg_run.specs.Fits.{ActionFits}
@@ -16,7 +17,7 @@ use Rattle.pg_run_thread.specs.Told.{id_of}
 use Rattle.pg_run_thread.specs.declared.action.Action.{Action}
 use Rattle.pg_run_thread.specs.declared.action.Action.TheVariants as actions
 use Rattle.pg_law_threads.specs.Effects.{deeds}
-use Rattle.pg_law_runs.specs.Deeds.{Did, is_event_at}
+use Rattle.pg_law_runs.specs.Deeds.{is_event_at}
 use Rattle.pg_law_course.specs.Course.{cells_before, course, shared_in, state_at, turns_before}
 use Rattle.pg_law_course.specs.Plan.{is_shared}
 use Rattle.pg_law_course.specs.Steps.{answer_by, made_by, number_in, thread_named, word_in}
@@ -57,6 +58,28 @@ bare_parts (requests.Create at f n) e = absurd cc
 bare_parts (requests.Join u (Some at)) e = absurd cc
 bare_parts (requests.Join u None) e = refl
 bare_parts q e = refl
+
+-- requests of other kinds are bare
+pub other_bare : (q : Request) → (q ≡ requests.Start → ⊥) → ((n : ℕ) (b : Bool) → q ≡ requests.Exit n b → ⊥) → ((at : ByteRange) (f n : ℕ) → q ≡ requests.Create at f n → ⊥)
+    → ((u : ℕ) (at : Option ByteRange) → q ≡ requests.Join u at → ⊥) → is_bare q ≡ true
+other_bare requests.Start s e c j = absurd (s refl)
+other_bare (requests.Exit n b) s e c j = absurd (e n b refl)
+other_bare (requests.Create at f n) s e c j = absurd (c at f n refl)
+other_bare (requests.Join u (Some at)) s e c j = absurd (j u (Some at) refl)
+other_bare (requests.Join u None) s e c j = refl
+other_bare q s e c j = refl
+
+-- and so is a join with no place
+pub none_bare : (q : Request) (u : ℕ) (at : Option ByteRange) → q ≡ requests.Join u at → at ≡ None → is_bare q ≡ true
+none_bare q u at e n = ap is_bare (e ∙ ap (requests.Join u) n)
+
+-- actions of other kinds are no events
+pub other_event : (gated : List InstrId) (id : ℕ) (x : Action) → ((q : ByteRange) → x ≡ actions.Load q → ⊥) → ((q : ByteRange) (n : ℕ) → x ≡ actions.Store q n → ⊥)
+    → ((q : Request) → x ≡ actions.Event q → ⊥) → is_event_at gated id x ≡ true → ⊥
+other_event gated id (actions.Load q) l s e h = l q refl
+other_event gated id (actions.Store q n) l s e h = s q n refl
+other_event gated id (actions.Event q) l s e h = e q refl
+other_event gated id x l s e h = absurd cc
 
 module _ {r : Run} {table : TableId} {parts : ℕ} {a : Worker} (h : IsTurnDue r table parts a) where
   abbrev number : (g : ℕ) × (next_turn_of a ≡ Some g)

@@ -1,6 +1,7 @@
 //! What each kind of turn reads and leaves.
 
 ghost use Rattle.std.specs.Prelude.{◌≡◌, ℕ, ℤ, ◌<◌, List, Some, length, slice_get, slice_index, true};
+ghost use Rattle.pg_num.specs.declared.limits.TheConstants.{THREAD_LIMIT};
 ghost use Rattle.pg_ir.specs.declared.request.Request.TheVariants as requests;
 ghost use Rattle.pg_run_thread.specs.Step.{next};
 ghost use Rattle.pg_run_thread.specs.declared.action.Action.TheVariants as actions;
@@ -23,6 +24,14 @@ fn answer_to(request: &Request, reply: u64) -> u64
         Request::Putchar { value } => value % 256,
         _ => reply,
     }
+}
+
+/// A thread by its number.
+fn thread_of(number: u64) -> ThreadNo
+    requires inside { number < THREAD_LIMIT }
+    ensures { result.0 ≡ number }
+{
+    ThreadNo(number as u8)
 }
 
 impl Worker {
@@ -132,12 +141,8 @@ impl Worker {
         ensures took { TookTurn self.old self.new }
     {
         let made = self.made(shared);
-        turns::put_word(
-            &shared.words,
-            &mut self.seat,
-            ThreadNo(made as u8),
-            argument,
-        );
+        let thread = thread_of(made);
+        turns::put_word(&shared.words, &mut self.seat, thread, argument);
         accesses::store_due(&shared.words, &mut self.seat, at, made);
         let reply = self.reply(shared);
         self.end_turn(
@@ -161,7 +166,8 @@ impl Worker {
         ensures at { IsAt (run_in shared.now) (table_in shared.now) 0 self.new }
         ensures took { TookTurn self.old self.new }
     {
-        let value = turns::get_word(&shared.words, &mut self.seat, ThreadNo(target as u8));
+        let thread = thread_of(target);
+        let value = turns::get_word(&shared.words, &mut self.seat, thread);
         accesses::store_due(&shared.words, &mut self.seat, at, value);
         let reply = self.reply(shared);
         self.end_turn(
@@ -191,6 +197,7 @@ impl Worker {
     }
 
     /// The request of the turn that is due.
+    #[tactic(auto, using(crate::proofs::TurnKinds::other_bare, crate::proofs::TurnKinds::none_bare))]
     fn ask(&mut self, shared: &Shared<'_>, request: Request)
         requires at { IsAt (run_in shared.now) (table_in shared.now) 0 self.old }
         requires left { 0 < self.old.left }
@@ -200,18 +207,18 @@ impl Worker {
         ensures at { IsAt (run_in shared.now) (table_in shared.now) 0 self.new }
         ensures took { TookTurn self.old self.new }
     {
-        match request {
+        match &request {
             Request::Start => self.start(shared),
-            Request::Exit { value, is_return } => self.exit(shared, value, is_return),
+            Request::Exit { value, is_return } => self.exit(shared, *value, *is_return),
             Request::Create {
                 at,
                 function,
                 argument,
-            } => self.create(shared, at, function, argument),
-            Request::Join {
-                target,
-                at: Some(at),
-            } => self.join(shared, target, at),
+            } => self.create(shared, *at, *function, *argument),
+            Request::Join { target, at } => match at {
+                Some(at) => self.join(shared, *target, *at),
+                None => self.bare(shared, request),
+            },
             _ => self.bare(shared, request),
         }
     }
