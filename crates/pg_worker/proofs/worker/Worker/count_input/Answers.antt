@@ -1,0 +1,8 @@
+use Rattle.std.proofs.Common.{◌∙◌, ap, refl}
+use Rattle.pg_worker.specs.Standing.{run_in, table_in}
+use Rattle.pg_worker.proofs.PlainSteps.{count_at}
+use Rattle.pg_worker.proofs.worker.Worker.count_input.Goals as goal
+
+pub returns-clause-at : goal.returns-clause-at
+returns-clause-at c = count_at (run_in c.args.shared.now) (table_in c.args.shared.now) c.args.self.now
+    c.requires.at c.requires.left c.requires.turn c.requires.next c.resume.new.self c.resume.ensures.resumed c.resume.ensures.seat

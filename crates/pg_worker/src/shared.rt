@@ -1,0 +1,18 @@
+//! What the workers of a run share.
+
+use pg_ir::Program;
+use pg_run::Gated;
+use pg_run_trace::Schedule;
+use pg_seats::RunWords;
+
+/// What the workers of a run share: the words, what the run is computed from, which of the runs on these words it is, and the loads
+/// and stores that are events.
+#[derive(Drop)]
+pub struct Shared<'a> {
+    pub words: RunWords,
+    pub program: &'a Program,
+    pub schedule: &'a Schedule,
+    pub input: &'a [i64],
+    pub epoch: u64,
+    pub gated: Gated,
+}
