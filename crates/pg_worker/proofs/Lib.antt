@@ -7,7 +7,7 @@ mod NextSteps
 mod PlainSteps
 mod DueTurns
 mod FirstWorkers
-mod Segments
+pub mod Segments
 mod TurnsLeft
 pub mod WorkerRests
 mod TurnKinds

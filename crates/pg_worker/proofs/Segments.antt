@@ -73,6 +73,9 @@ went_more a b c h k = record {
   looks = (let x = h.looks in let y = k.looks in omega (arith, x, y));
 }
 
+pub went_step : (a b c : Worker) → WentOn a b → TookOne b c → WentOn a c
+went_step a b c h k = went_more a b c h k.went
+
 pub wait_later : (a b c : Worker) → WentOn a b → HasToWait b c → HasToWait a c
 wait_later a b c h k = record { looked = (let x = h.looks in let y = k.looked in omega (arith, x, y)); early = k.early }
 

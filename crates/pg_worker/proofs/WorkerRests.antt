@@ -84,7 +84,7 @@ module _ (r : Run) (table : TableId) (w : Worker) (at : IsAt r table 0 w) where
   -- ---- where it rests
 
   -- no turn is left
-  pub done_rests : w.done ≡ length w.turns.items → IsAtEnd
+  pub done_rests : length w.turns.items ≤ w.done → IsAtEnd
   done_rests e = at_end (λ lt.
       (let n = its_step lt in
       let left = turn_left r.program r.input r.schedule at.enforced.can at.enforced.good w.thread.0 at.taken n.step n.there in

@@ -183,7 +183,7 @@ pub record IsWaiting (r : Run) (a b : Worker) : Type 0 where
 
 -- no turn is left, or it waits for its next turn, or a turn is left and it is stopped
 abbrev pub HasPaused : Run → Paused → Worker → Worker → Type 0
-HasPaused r pauses.Done a b = b.done ≡ length b.turns.items
+HasPaused r pauses.Done a b = length b.turns.items ≤ b.done
 HasPaused r pauses.Waiting a b = IsWaiting r a b
 HasPaused r pauses.Stopped a b = (b.done < length b.turns.items) × (is_stopped r.program b ≡ true)
 

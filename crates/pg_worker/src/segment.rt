@@ -149,6 +149,7 @@ impl Worker {
     }
 
     /// Steps until its next turn isn't due, or until it has no turn or no step left.
+    #[tactic(auto, using(crate::proofs::Segments::went_step))]
     pub fn segment<H: Hook>(&mut self, shared: &Shared<'_>, hook: &H) -> Paused
         requires at { IsAt (run_in shared.now) (table_in shared.now) 0 self.old }
         requires gated { shared.now.gated ≡ shared.now.schedule.now.gated }
