@@ -26,11 +26,10 @@ impl Pages {
     /// # Errors
     ///
     /// Where no memory is left.
-    #[tactic(auto, using(crate::proofs::PageMarks::none_marked))]
     pub fn new(alloc: Global) -> Result<Pages, AllocError>
         ensures none { IfOk result (λ p. (page : ℕ) → is_marked p.words.items page ≡ false) }
     {
-        let words = Vec::from_elem(alloc, 0u64, PAGE_WORDS as usize)?;
+        let words = vec![in alloc; 0; PAGE_WORDS as usize]?;
         Ok(Pages { words })
     }
 
