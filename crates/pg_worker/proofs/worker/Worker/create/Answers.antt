@@ -9,7 +9,7 @@ use Rattle.pg_worker.proofs.worker.Worker.create.Goals as goal
 pub thread_of-thread-requires : goal.thread_of-thread-requires
 thread_of-thread-requires c =
     let due = event_due c.requires.at c.requires.turn c.requires.due c.requires.next in
-    made_inside due c.args.at c.args.function c.args.argument c.made-made.result c.requires.next c.made-made.ensures
+    record { inside = made_inside due c.args.at c.args.function c.args.argument c.made-made.result c.requires.next c.made-made.ensures }
 
 pub put_word-requires-clause-inside : goal.put_word-requires-clause-inside
 put_word-requires-clause-inside c =

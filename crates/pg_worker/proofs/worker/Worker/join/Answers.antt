@@ -11,7 +11,7 @@ use Rattle.pg_worker.proofs.worker.Worker.join.Goals as goal
 pub thread_of-thread-requires : goal.thread_of-thread-requires
 thread_of-thread-requires c =
     let due = event_due c.requires.at c.requires.turn c.requires.due c.requires.next in
-    join_inside due c.args.target c.args.at c.requires.next
+    record { inside = join_inside due c.args.target c.args.at c.requires.next }
 
 pub get_word-value-requires-clause-inside : goal.get_word-value-requires-clause-inside
 get_word-value-requires-clause-inside c =
