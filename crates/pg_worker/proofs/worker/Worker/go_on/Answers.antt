@@ -4,8 +4,8 @@ use Rattle.pg_worker.specs.Standing.{HasDone, run_in}
 use Rattle.pg_worker.proofs.Segments.{spent_pauses, trap_pauses, waiting_pauses}
 use Rattle.pg_worker.proofs.worker.Worker.go_on.Goals as goal
 
-pub returns-then-left-eq0-clause-paused : goal.returns-then-left-eq0-clause-paused
-returns-then-left-eq0-clause-paused g c = spent_pauses (run_in c.args.shared.now) c.args.self.now c.requires.turn c.if-left-eq0.true
+pub returns-then-self-eq0-clause-paused : goal.returns-then-self-eq0-clause-paused
+returns-then-self-eq0-clause-paused g c = spent_pauses (run_in c.args.shared.now) c.args.self.now c.requires.turn c.if-self-eq0.true
 
 pub returns-in-Step-clause-steps : goal.returns-in-Step-clause-steps
 returns-in-Step-clause-steps g c = subst (λ (x : Taken). HasDone (run_in c.args.shared.now) x c.args.self.now c.step.new.self) c.in-Step.is c.step.ensures.done
