@@ -1,8 +1,7 @@
 -- The function that an operation names: as its third operand, as no operation but a create does.
-use Rattle.std.proofs.Common.{◌≡◌, ℕ, zero, suc, ◌<◌, ◌≤◌, ◌⊎◌, inl, inr, List, [], ◌∷◌, length, map, Bool, true, false, Option, Some, None, refl, sym, ◌∙◌, ap, subst, arith}
+use Rattle.std.proofs.Common.{◌≡◌, ℕ, zero, suc, inr, List, [], ◌∷◌, map, true, Option, Some, None, refl, sym, ◌∙◌, subst}
 use Rattle.std.specs.Prelude.{slice_get}
 use Rattle.std.specs.List.{AllByRecursion}
-use Rattle.std.proofs.lemmas.Option.{slice_get_within}
 use Rattle.pg_ir.specs.declared.edge.Case.{Case}
 use Rattle.pg_ir.specs.declared.edge.Incoming.{Incoming}
 use Rattle.pg_ir.specs.declared.instr.Instr.{Instr}
@@ -17,8 +16,8 @@ use Rattle.pg_ir.specs.declared.value.Value.TheVariants as value
 use Rattle.pg_ir.specs.Program.{NumberedProgram}
 use Rattle.pg_ir.specs.Signatures.{parameters_of}
 use Rattle.pg_ir.specs.WellFormed.{BeginsThread, FitLibraryCall, FitsIncoming, FitsIndex, FitsInstr, FitsOp, HasType, HaveTypes, StartsAs, StartsThread, parameter_types}
-use Rattle.pg_run_thread.specs.Operands.{operands_of, values_of}
-use Rattle.pg_law_course.specs.Threads.{function_operand, function_value}
+use Rattle.pg_run_thread.specs.Operands.{operands_of}
+use Rattle.pg_law_course.specs.Threads.{function_value}
 use Rattle.pg_worker.specs.Calls.{is_call}
 
 -- this operand isn't a function's name

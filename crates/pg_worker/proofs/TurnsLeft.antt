@@ -9,7 +9,6 @@ use Rattle.pg_run_trace.specs.declared.schedule.Schedule.{Schedule}
 use Rattle.pg_run_trace.specs.declared.step.Step.{Step}
 use Rattle.pg_run_trace.specs.declared.turn.Turn.{Turn}
 use Rattle.pg_run.specs.Permitted.{has_turn, turns_left}
-use Rattle.pg_run.specs.Runs.{events}
 use Rattle.pg_run.specs.State.{initial}
 use Rattle.pg_law_effects.specs.PermittedSteps.{none_taken}
 use Rattle.pg_law_threads.specs.Effects.{deeds}
