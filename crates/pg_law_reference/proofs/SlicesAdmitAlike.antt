@@ -31,13 +31,17 @@ module _ (p : NumberedProgram) (program : IsProgram p) (bytes : HoldBytes p.glob
       → ((regions : Regions) → AreRegions p (is_gated gated) s regions → IsSlice (reference_of p regions gated input xs) d)
       → ((regions : Regions) → AreRegions p (is_gated gated) t regions → IsSlice (reference_of p regions gated input xs) e)
       → (regions : Regions) × AreRegions p (is_gated gated) s regions × AreRegions p (is_gated gated) t regions
-          × ((other : List ℤ) → admits (reference_of p regions gated input xs) d other ≡ admits (reference_of p regions gated input xs) e other)
+      × ((other : List ℤ) → admits (reference_of p regions gated input xs) d other ≡ admits (reference_of p regions gated input xs) e other)
   admit_alike s t first second d e slice_d slice_e =
       let some = regions_are p (is_gated gated) s program first in
       let over = same_regions p program (is_gated gated) s t first second some.0 some.1 in
       let keeps = extents_keep p gated s some.0 some.1 program first input small bytes turns xs printed value exits in
       let run = reference_of p some.0 gated input xs in
       let of_d = slice_d some.0 some.1 in
-      let of_e = slice_e some.0 over in
-      (some.0, some.1, over, λ other. same_truth (admits run d other) (admits run e other)
-          (admits_more run keeps e d (of_e.least d of_d.closed) other) (admits_more run keeps d e (of_d.least e of_e.closed) other))
+      let of_e = slice_e some.0 over in (
+        some.0,
+        some.1,
+        over,
+        λ other. same_truth (admits run d other) (admits run e other)
+            (admits_more run keeps e d (of_e.least d of_d.closed) other) (admits_more run keeps d e (of_d.least e of_e.closed) other),
+      )

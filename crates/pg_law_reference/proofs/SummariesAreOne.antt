@@ -24,7 +24,7 @@ module _ (p : NumberedProgram) (program : IsProgram p) (gated : ℕ → Bool) (s
   calls_fewer f g lt can c =
       let small = callee_small p f g program c in
       let once = false_from_ne_true (reach_at (reaches p program gated) g).is_recursive
-          (λ e. can.ends g (inr (direct c)) (reaches_itself p (reaches p program gated) g program (are_reaches p program gated) small e)) in
+      (λ e. can.ends g (inr (direct c)) (reaches_itself p (reaches p program gated) g program (are_reaches p program gated) small e)) in
       fewer p (reaches p program gated) f g program (are_reaches p program gated) lt small c once
 
   one_below : (n f : ℕ) → f < length p.functions → (reach_at (reaches p program gated) f).size < n → s f ≡ t f

@@ -6,3 +6,4 @@ pub mod RecordedWays
 pub mod ReusedLines
 pub mod RecordedLines
 pub mod LoadedTurns
+pub mod OneText

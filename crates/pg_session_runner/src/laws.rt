@@ -1,5 +1,5 @@
 //! What holds of the entries of a program and of a session's lines: each law is the clause of a function that does nothing.
-ghost use Rattle.std.specs.Prelude.{◌≡◌, ◌<◌, ◌^◌, ℕ, ℤ, All, List, length, true, Option, Some, slice_get};
+ghost use Rattle.std.specs.Prelude.{Contains, ◌≡◌, ◌<◌, ◌^◌, ℕ, ℤ, All, List, length, true, Option, Some, slice_get};
 ghost use Rattle.pg_ir.specs.Program.{NumberedProgram};
 ghost use Rattle.pg_cache.specs.Kept.{Kept};
 ghost use Rattle.pg_run.specs.Rotation.{rotation_of};
@@ -9,9 +9,9 @@ ghost use Rattle.pg_session_texts.specs.declared.reply.ReplyKind.TheVariants.{Re
 ghost use Rattle.pg_law_reuse.specs.Entries.{EntryParts, IsEntry};
 ghost use Rattle.pg_law_order.specs.Good.{IsGoodRun};
 ghost use Rattle.pg_law_order.specs.Served.{IsServed};
-ghost use Rattle.pg_session.specs.Sessions.{Answer, AnswersAll, IsEntryOf, opened};
+ghost use Rattle.pg_session.specs.Sessions.{Answer, AnswersAll, IsEntryOf, IsSessionText, opened};
 ghost use Rattle.pg_session_runner.specs.Headline.{IsReusedLine, IsServedRecording};
-ghost use Rattle.pg_session_runner.specs.Runs.{IsGiven, IsKept, Way, entry_admits, runs_by};
+ghost use Rattle.pg_session_runner.specs.Runs.{IsGiven, IsKept, Way, entry_admits, rotating, runs_by};
 
 use pg_law_order::recorded::the_schedule_of_a_rotation_run_is_good;
 use pg_law_reuse::laws::{an_entry_of_turns_serves_what_it_admits, an_entry_serves_what_it_admits};
@@ -70,3 +70,12 @@ pub fn each_recorded_line_is_served()
 {
     a_rotation_is_a_run();
 }
+
+/// A session whose recordings are made in rotation has one text: its program and its quantum, what it keeps at first, and the
+/// inputs of its lines settle each answer. The premise is that the program can run on each input.
+pub fn a_session_in_rotation_has_one_text()
+    ensures { (p : NumberedProgram) (quantum : ℕ) (first : Kept EntryParts) (inputs : List (Option (List ℤ))) (text other : List ℕ)
+        → ((input : List ℤ) → Contains inputs (Some input) → CanRun p input)
+        → IsSessionText entry_admits (runs_by p (rotating quantum)) first inputs text
+        → IsSessionText entry_admits (runs_by p (rotating quantum)) first inputs other → text ≡ other }
+{}
