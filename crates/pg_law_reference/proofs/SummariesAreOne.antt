@@ -1,5 +1,5 @@
 -- The functions of a program have one summary each, and so its branches have the same regions by each table of them.
-use Rattle.std.proofs.Common.{◌≡◌, ℕ, zero, suc, ◌<◌, Bool, true, false, List, length, Option, Some, None, refl, sym, ◌∙◌, arith, inr}
+use Rattle.std.proofs.Common.{◌≡◌, ℕ, zero, suc, ◌<◌, Bool, false, List, length, Option, Some, None, refl, sym, ◌∙◌, arith, inr}
 use Rattle.std.proofs.lemmas.Bool.{false_from_ne_true}
 use Rattle.pg_ir.specs.Program.{NumberedProgram}
 use Rattle.pg_ir.specs.WellFormed.{IsProgram}
