@@ -16,7 +16,7 @@ use Rattle.pg_ir.specs.declared.value.Value.{Value}
 use Rattle.pg_ir.specs.declared.value.Value.TheVariants as value
 use Rattle.pg_ir.specs.Program.{NumberedProgram}
 use Rattle.pg_ir.specs.Signatures.{parameters_of}
-use Rattle.pg_ir.specs.WellFormed.{BeginsThread, FitLibraryCall, FitsIncoming, FitsIndex, FitsInstr, FitsOp, HasType, HaveTypes, StartsAs, StartsThread}
+use Rattle.pg_ir.specs.WellFormed.{BeginsThread, FitLibraryCall, FitsIncoming, FitsIndex, FitsInstr, FitsOp, HasType, HaveTypes, StartsAs, StartsThread, parameter_types}
 use Rattle.pg_run_thread.specs.Operands.{operands_of, values_of}
 use Rattle.pg_law_course.specs.Threads.{function_operand, function_value}
 use Rattle.pg_worker.specs.Calls.{is_call}
@@ -92,9 +92,9 @@ module _ (p : NumberedProgram) (types : List Scalar) where
       go : (s : Option Scalar) → Rattle.std.specs.Prelude.IsSomeAnd s (λ s. AllByRecursion (FitsIncoming p types s) from) → (is_call (op.Phi from) ≡ true) × StartsAs p f
       go None k = absurd k
       go (Some s) k = not_named _ f (all_incoming s from 2 k) e
-  op_starts returns result (op.Switch w on other cases) f h e = not_named _ f (all_cases cases 1) e
-  op_starts returns result (op.Call g args) f h e = not_named _ f (all_typed _ args 2 h.2) e
-  op_starts returns result (op.Gep base indices) f h e = not_named _ f (all_indices indices 1 h.2) e
+  op_starts returns result (op.Switch w on other cases) f h e = not_named (function_value (slice_get (map (λ (c : Case). value.Const c.value) cases) 1)) f (all_cases cases 1) e
+  op_starts returns result (op.Call g args) f h e = not_named (function_value (slice_get args 2)) f (all_typed (parameter_types p g) args 2 h.2) e
+  op_starts returns result (op.Gep base indices) f h e = not_named (function_value (slice_get (map (λ (x : Index). x.value) indices) 1)) f (all_indices indices 1 h.2) e
   op_starts returns result (op.Ret None) f h e = absurd cc
   op_starts returns result (op.Ret (Some v)) f h e = absurd cc
   op_starts returns result (op.Add w a b) f h e = absurd cc
