@@ -1,6 +1,6 @@
 -- When a worker's next turn is due, and where the worker stands behind it.
 use Rattle.std.proofs.Common.{◌≡◌, ℕ, zero, suc, ◌+◌, ◌<◌, ◌≤◌, ◌⊎◌, inl, inr, [], ◌∷◌, ◌++◌, length, List, Bool, true, false, Option, Some, None, refl, sym, ◌∙◌, ap, subst, arith}
-use Rattle.std.specs.Prelude.{◌==◌, ◌&&◌, ◌||◌, slice_get, vec_capacity, if◌then◌else◌}
+use Rattle.std.specs.Prelude.{◌==◌, ◌||◌, slice_get, vec_capacity, if◌then◌else◌}
 use Rattle.std.specs.List.{cons_option}
 use Rattle.std.proofs.lemmas.Bool.{and_from, and_parts, cases_lt, eq-eqb, eqb-true, eqb-false, leb-true}
 use Rattle.std.proofs.lemmas.Option.{slice_get_within}
@@ -8,8 +8,6 @@ use Rattle.atomic_table.specs.Seated.{TableId}
 use Rattle.pg_num.specs.Places.{ByteRange, IsPlace}
 use Rattle.pg_num.specs.declared.limits.TheConstants.{GUIDED_STEP_LIMIT}
 use Rattle.pg_ir.specs.declared.ids.InstrId.{InstrId}
-use Rattle.pg_ir.specs.Program.{NumberedProgram}
-use Rattle.pg_run_thread.specs.LocalState.{LocalState}
 use Rattle.pg_run_thread.specs.Step.{after, next}
 use Rattle.pg_run_thread.specs.Told.{id_of}
 use Rattle.pg_run_thread.specs.declared.action.Action.{Action}
@@ -30,15 +28,14 @@ use Rattle.pg_law_course.proofs.RestingThreads.{rests_at}
 use Rattle.pg_law_course.proofs.SharedPlaces.{shared_end, turns_filter}
 use Rattle.pg_seats.specs.declared.run.Run.{Run}
 use Rattle.pg_seats.specs.declared.run.Standing.{Standing}
-use Rattle.pg_seats.specs.declared.run.View.{View}
 use Rattle.pg_seats.specs.declared.run.View.TheVariants as views
-use Rattle.pg_seats.specs.Plan.{IsEnforced, own_of, plan_of}
+use Rattle.pg_seats.specs.Plan.{own_of, plan_of}
 use Rattle.pg_seats.specs.Views.{IsAhead, IsNow, advanced, fits, is_due, is_turn, looked, next_of, seen_of}
 use Rattle.pg_worker.specs.declared.worker.Worker.{Worker}
 use Rattle.pg_worker.specs.Pages.{is_marked, page_of}
-use Rattle.pg_worker.specs.Standing.{HasKept, HasMarks, HasToWait, IsAt, IsDue, IsResumed, IsSeatAt, TookOne, TookTurn, WentOn, answer_at, is_end, is_now, looks_of, next_turn_of, place_stored, stands_at_event, value_left, waits_there}
+use Rattle.pg_worker.specs.Standing.{HasKept, HasMarks, HasToWait, IsAt, IsDue, IsResumed, TookTurn, WentOn, answer_at, is_end, is_now, looks_of, next_turn_of, place_stored, stands_at_event, value_left, waits_there}
 use Rattle.pg_worker.proofs.StepLeaves.{marks_more, value_more}
-use Rattle.pg_worker.proofs.NextSteps.{HasStep, at_step, inside, not_both}
+use Rattle.pg_worker.proofs.NextSteps.{HasStep, at_step, inside}
 use Rattle.pg_worker.proofs.PlainSteps.{its_next}
 
 -- ---- what waits

@@ -1,5 +1,5 @@
 -- A create makes another thread than the main one.
-use Rattle.std.proofs.Common.{◌≡◌, ℕ, ℤ, ◌<◌, List, ◌∷◌, ◌++◌, length, Bool, true, false, Option, Some, None, refl, sym, ◌∙◌, ap, subst, arith}
+use Rattle.std.proofs.Common.{◌≡◌, ℕ, ℤ, List, length, Bool, true, false, Option, Some, None, refl, sym, ◌∙◌, ap, arith}
 use Rattle.std.specs.Prelude.{slice_get}
 use Rattle.pg_num.specs.Places.{ByteRange}
 use Rattle.pg_ir.specs.declared.ids.InstrId.{InstrId}
@@ -12,25 +12,22 @@ use Rattle.pg_run_thread.specs.LocalState.{LocalState}
 use Rattle.pg_run_thread.specs.Step.{next}
 use Rattle.pg_run_trace.specs.declared.schedule.Schedule.{Schedule}
 use Rattle.pg_run_trace.specs.declared.step.Happening.{Happening}
-use Rattle.pg_run_trace.specs.declared.step.Step.{Step}
 use Rattle.pg_run_trace.specs.declared.turn.Turn.{Turn}
 use Rattle.pg_run_trace.specs.declared.turn.TurnKind.{TurnKind}
 use Rattle.pg_run_trace.specs.declared.turn.TurnKind.TheVariants as kinds
 use Rattle.pg_run_trace.specs.Kinds.{kind_of}
 use Rattle.pg_run_trace.specs.Steps.{event_of}
 use Rattle.pg_run.specs.MachineStep.{happening_if, happening_of, turn_of, turn_with}
-use Rattle.pg_run.specs.Runs.{Takes}
 use Rattle.pg_run.specs.State.{State, next_of}
 use Rattle.pg_run.proofs.StepsBegin.{ready_made}
 use Rattle.pg_law_effects.proofs.ToldByStep.{event_is}
 use Rattle.pg_law_effects.specs.PermittedSteps.{none_taken}
-use Rattle.pg_law_threads.specs.Effects.{deeds}
 use Rattle.pg_law_runs.specs.Cuts.{CanRun}
 use Rattle.pg_law_runs.specs.Deeds.{Did, is_event_at}
 use Rattle.pg_law_order.specs.Good.{IsGoodRun}
-use Rattle.pg_law_course.specs.Course.{before, course, state_at, turns_before}
+use Rattle.pg_law_course.specs.Course.{before, course, state_at}
 use Rattle.pg_law_course.specs.Plan.{first_seen, guided_deeds}
-use Rattle.pg_law_course.specs.Steps.{IsStepOf, IsTurnOf, happening_by, made_by}
+use Rattle.pg_law_course.specs.Steps.{IsStepOf, happening_by, made_by}
 use Rattle.pg_law_course.specs.Threads.{is_create}
 use Rattle.pg_law_course.proofs.CoursePlaces.{Place, place}
 use Rattle.pg_law_course.proofs.CourseSteps.{is_step, step_at}

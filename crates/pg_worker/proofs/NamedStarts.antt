@@ -1,8 +1,7 @@
 -- The function that an operation names: as its third operand, as no operation but a create does.
-use Rattle.std.proofs.Common.{◌≡◌, ℕ, zero, suc, ◌<◌, ◌≤◌, ◌⊎◌, inl, inr, List, [], ◌∷◌, length, map, Bool, true, false, Option, Some, None, refl, sym, ◌∙◌, ap, subst, arith}
+use Rattle.std.proofs.Common.{◌≡◌, ℕ, zero, suc, inr, List, [], ◌∷◌, map, true, Option, Some, None, refl, sym, ◌∙◌, subst}
 use Rattle.std.specs.Prelude.{slice_get}
 use Rattle.std.specs.List.{AllByRecursion}
-use Rattle.std.proofs.lemmas.Option.{slice_get_within}
 use Rattle.pg_ir.specs.declared.edge.Case.{Case}
 use Rattle.pg_ir.specs.declared.edge.Incoming.{Incoming}
 use Rattle.pg_ir.specs.declared.instr.Instr.{Instr}
@@ -17,8 +16,8 @@ use Rattle.pg_ir.specs.declared.value.Value.TheVariants as value
 use Rattle.pg_ir.specs.Program.{NumberedProgram}
 use Rattle.pg_ir.specs.Signatures.{parameters_of}
 use Rattle.pg_ir.specs.WellFormed.{BeginsThread, FitLibraryCall, FitsIncoming, FitsIndex, FitsInstr, FitsOp, HasType, HaveTypes, StartsAs, StartsThread, parameter_types}
-use Rattle.pg_run_thread.specs.Operands.{operands_of, values_of}
-use Rattle.pg_law_course.specs.Threads.{function_operand, function_value}
+use Rattle.pg_run_thread.specs.Operands.{operands_of}
+use Rattle.pg_law_course.specs.Threads.{function_value}
 use Rattle.pg_worker.specs.Calls.{is_call}
 
 -- this operand isn't a function's name
@@ -59,26 +58,26 @@ module _ (p : NumberedProgram) (types : List Scalar) where
       apart : (f : ℕ) → Path (Option ℕ) None (Some f) → ⊥
       apart f q = cc
 
-  some_number : (m n : ℕ) → Some m ≡ Some n → m ≡ n
-  some_number m n q = cc
-
-  third_starts : (v : Value) (f : ℕ) → StartsThread p v → function_value (Some v) ≡ Some f → StartsAs p f
-  third_starts (value.Function g) f h e = inr (subst (λ (n : ℕ). BeginsThread (slice_get p.functions n)) (some_number g f e) h)
-  third_starts (value.Register r) f h e = absurd h
-  third_starts (value.Const c) f h e = absurd h
-  third_starts (value.Global g) f h e = absurd h
+  thread_starts : (v : Value) (f : ℕ) → StartsThread p v → function_value (Some v) ≡ Some f → StartsAs p f
+  thread_starts (value.Function g) f h e = inr (subst (λ (n : ℕ). BeginsThread (slice_get p.functions n)) (some_number g f e) h)
+    where
+      some_number : (m n : ℕ) → Some m ≡ Some n → m ≡ n
+      some_number m n q = cc
+  thread_starts (value.Register r) f h e = absurd h
+  thread_starts (value.Const c) f h e = absurd h
+  thread_starts (value.Global g) f h e = absurd h
 
   create_starts : (args : List Value) (f : ℕ) → FitLibraryCall p types PthreadCreate args → Names args f → StartsAs p f
-  create_starts (a ∷ b ∷ v ∷ d ∷ []) f h e = third_starts v f h.2 e
   create_starts [] f h e = absurd h
   create_starts (a ∷ []) f h e = absurd h
   create_starts (a ∷ b ∷ []) f h e = absurd h
   create_starts (a ∷ b ∷ v ∷ []) f h e = absurd h
+  create_starts (a ∷ b ∷ v ∷ d ∷ []) f h e = thread_starts v f h.2 e
   create_starts (a ∷ b ∷ v ∷ d ∷ x ∷ xs) f h e = absurd h
 
   call_starts : (k : LibraryCall) (args : List Value) (f : ℕ) → FitLibraryCall p types k args → Names args f → StartsAs p f
   call_starts PthreadCreate args f h e = create_starts args f h e
-  call_starts k args f h e = not_named (function_value (slice_get args 2)) f (all_typed (parameters_of k) args 2 h) e
+  call_starts k args f h e = not_named _ f (all_typed (parameters_of k) args 2 h) e
 
   op_starts : (returns result : Option Scalar) (o : Op) (f : ℕ) → FitsOp p types returns result o → Names (operands_of o) f → (is_call o ≡ true) × StartsAs p f
   op_starts returns result (op.CallLibrary k args) f h e = (refl, call_starts k args f h.1 e)
@@ -92,9 +91,9 @@ module _ (p : NumberedProgram) (types : List Scalar) where
       go : (s : Option Scalar) → Rattle.std.specs.Prelude.IsSomeAnd s (λ s. AllByRecursion (FitsIncoming p types s) from) → (is_call (op.Phi from) ≡ true) × StartsAs p f
       go None k = absurd k
       go (Some s) k = not_named _ f (all_incoming s from 2 k) e
-  op_starts returns result (op.Switch w on other cases) f h e = not_named (function_value (slice_get (map (λ (c : Case). value.Const c.value) cases) 1)) f (all_cases cases 1) e
-  op_starts returns result (op.Call g args) f h e = not_named (function_value (slice_get args 2)) f (all_typed (parameter_types p g) args 2 h.2) e
-  op_starts returns result (op.Gep base indices) f h e = not_named (function_value (slice_get (map (λ (x : Index). x.value) indices) 1)) f (all_indices indices 1 h.2) e
+  op_starts returns result (op.Switch w on other cases) f h e = not_named _ f (all_cases cases 1) e
+  op_starts returns result (op.Call g args) f h e = not_named _ f (all_typed (parameter_types p g) args 2 h.2) e
+  op_starts returns result (op.Gep base indices) f h e = not_named _ f (all_indices indices 1 h.2) e
   op_starts returns result (op.Ret None) f h e = absurd cc
   op_starts returns result (op.Ret (Some v)) f h e = absurd cc
   op_starts returns result (op.Add w a b) f h e = absurd cc

@@ -1,6 +1,6 @@
 -- The next step of a worker's thread in the full guided run, and where the worker stands behind it.
-use Rattle.std.proofs.Common.{◌≡◌, ℕ, ℤ, zero, suc, ◌+◌, ◌<◌, ◌≤◌, ◌⊎◌, inl, inr, [], ◌∷◌, ◌++◌, length, Bool, true, false, Option, Some, None, refl, sym, ◌∙◌, ap, subst, arith}
-use Rattle.std.specs.Prelude.{List, slice_get, slice_index, vec_capacity, if◌then◌else◌}
+use Rattle.std.proofs.Common.{◌≡◌, ℕ, ℤ, zero, suc, ◌<◌, ◌≤◌, ◌⊎◌, inl, inr, [], ◌∷◌, ◌++◌, length, Bool, true, false, Option, Some, None, refl, sym, ◌∙◌, ap, subst, arith}
+use Rattle.std.specs.Prelude.{List, slice_get, vec_capacity, if◌then◌else◌}
 use Rattle.std.specs.List.{cons_option}
 use Rattle.std.proofs.lemmas.Bool.{cases_lt, leb-true}
 use Rattle.std.proofs.lemmas.Option.{slice_get_within}
@@ -14,10 +14,8 @@ use Rattle.pg_run_thread.specs.Told.{id_of}
 use Rattle.pg_run_trace.specs.declared.schedule.Schedule.{Schedule}
 use Rattle.pg_law_runs.specs.Deeds.{Did, goes_on, is_event_at}
 use Rattle.pg_law_course.specs.Course.{cells_before, course, local_behind, next_turn, shared_in, state_at, turns_before, turns_in}
-use Rattle.pg_law_course.specs.Plan.{is_shared}
-use Rattle.pg_law_course.specs.Prints.{number_printed, number_told, numbers_printed}
+use Rattle.pg_law_course.specs.Prints.{number_printed, numbers_printed}
 use Rattle.pg_law_course.specs.Rests.{RestsAt, has_spent}
-use Rattle.pg_law_course.specs.Steps.{IsStepOf, answer_by, is_shared_action}
 use Rattle.pg_law_course.proofs.CoursePlaces.{count_more, get_length}
 use Rattle.pg_law_course.proofs.CourseSteps.{is_step}
 use Rattle.pg_law_course.proofs.OutputByTurns.{more_numbers}

@@ -1,5 +1,5 @@
 -- Marks of pages, as bits of words.
-use Rattle.std.proofs.Common.{◌≡◌, ℕ, zero, suc, ◌+◌, ◌*◌, ◌/◌, ◌%◌, ◌^◌, ◌<◌, List, length, get_or, replicate, Bool, true, false, refl, sym, ◌∙◌, ap, subst, arith}
+use Rattle.std.proofs.Common.{◌≡◌, ℕ, zero, suc, ◌*◌, ◌/◌, ◌%◌, ◌^◌, ◌<◌, List, length, get_or, replicate, Bool, true, false, refl, sym, ◌∙◌, ap, arith}
 use Rattle.std.specs.Prelude.{◌==◌, bit_or, slice_index, slice_set}
 use Rattle.std.specs.Int.{bit_at, w64}
 use Rattle.std.proofs.lemmas.Bool.{eq-eqb, eqb-false, eqb-true}
@@ -15,8 +15,11 @@ zero_at zero i = refl
 zero_at (suc n) zero = refl
 zero_at (suc n) (suc i) = zero_at n i
 
-pub no_marks : (n page : ℕ) → is_marked (replicate n 0) page ≡ false
+no_marks : (n page : ℕ) → is_marked (replicate n 0) page ≡ false
 no_marks n page = ap (λ (w : ℕ). bit_at w (page % 64) == 1) (zero_at n (page / 64)) ∙ ap (λ (b : ℕ). b == 1) (bit_at-zero (page % 64))
+
+pub none_marked : (n page : ℕ) (words : List ℕ) → words ≡ replicate n 0 → is_marked words page ≡ false
+none_marked n page words e = ap (λ (ws : List ℕ). is_marked ws page) e ∙ no_marks n page
 
 -- the words with one mark more
 abbrev pub with_mark : List ℕ → ℕ → ℕ → List ℕ

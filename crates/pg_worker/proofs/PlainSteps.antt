@@ -1,15 +1,12 @@
 -- The steps of a worker that are no turns: each is allowed, and leaves the worker behind one step more.
-use Rattle.std.proofs.Common.{◌≡◌, ℕ, ℤ, suc, ◌+◌, ◌*◌, ◌<◌, ◌≤◌, ◌^◌, [], length, Bool, true, false, Option, Some, None, refl, sym, ◌∙◌, ap, subst, arith}
-use Rattle.std.specs.Prelude.{◌==◌, ◌&&◌, not, slice_get, if◌then◌else◌}
+use Rattle.std.proofs.Common.{◌≡◌, ℕ, ℤ, suc, ◌*◌, ◌<◌, ◌≤◌, ◌^◌, length, Bool, true, false, Option, Some, None, refl, sym, ◌∙◌, ap, subst, arith}
+use Rattle.std.specs.Prelude.{◌&&◌, slice_get, if◌then◌else◌}
 use Rattle.std.proofs.lemmas.Bool.{eq-eqb}
 use Rattle.atomic_table.specs.Seated.{TableId}
 use Rattle.pg_num.specs.Inputs.{input_at}
 use Rattle.pg_num.specs.Places.{ByteRange, IsPlace}
-use Rattle.pg_num.specs.declared.limits.TheConstants.{GUIDED_STEP_LIMIT}
 use Rattle.pg_ir.specs.Program.{NumberedProgram}
-use Rattle.pg_run_memory.specs.Bytes.{number_of}
 use Rattle.pg_run_thread.specs.LocalState.{LocalState}
-use Rattle.pg_run_thread.specs.States.{CanStep}
 use Rattle.pg_run_thread.specs.Step.{after, next}
 use Rattle.pg_run_thread.specs.Told.{id_of}
 use Rattle.pg_run_thread.specs.declared.action.Action.{Action}
@@ -22,7 +19,7 @@ use Rattle.pg_run.proofs.FitActions.{action_fits}
 use Rattle.pg_law_threads.specs.Effects.{deeds}
 use Rattle.pg_law_threads.specs.Intervals.{Timed, timed}
 use Rattle.pg_law_runs.specs.Deeds.{Did, goes_on, is_event_at, owners_of}
-use Rattle.pg_law_course.specs.Course.{cells_before, course, next_turn, shared_in, turns_before, turns_in}
+use Rattle.pg_law_course.specs.Course.{cells_before, course, shared_in, turns_before, turns_in}
 use Rattle.pg_law_course.specs.Plan.{is_shared}
 use Rattle.pg_law_course.specs.Prints.{number_printed}
 use Rattle.pg_law_course.specs.Steps.{Accessed, access_by, accessed, is_shared_action, made_by, number_in}
@@ -37,7 +34,7 @@ use Rattle.pg_seats.specs.Plan.{IsEnforced, cells_there, own_of}
 use Rattle.pg_seats.specs.Views.{fits, has_number, is_plain, may_load, may_store, next_of, number_there, reads_at, seen_of, went_on, writes_at}
 use Rattle.pg_worker.specs.declared.worker.Worker.{Worker}
 use Rattle.pg_worker.specs.Pages.{is_marked, page_of}
-use Rattle.pg_worker.specs.Standing.{IsAt, IsResumed, IsSeatAt, TookOne, WentOn, answer_at, looks_of, place_stored, value_left}
+use Rattle.pg_worker.specs.Standing.{IsAt, IsResumed, IsSeatAt, TookOne, answer_at, looks_of, place_stored, value_left}
 use Rattle.pg_worker.proofs.NextSteps.{HasStep, has_step, still_at}
 
 -- ---- what an access tells

@@ -1,21 +1,19 @@
 -- What a step of a thread leaves: the pages that it writes, and the main thread's word.
-use Rattle.std.proofs.Common.{◌≡◌, ℕ, zero, suc, ◌+◌, ◌-◌, ◌/◌, ◌%◌, ◌<◌, ◌≤◌, ◌⊎◌, inl, inr, List, [], ◌∷◌, length, Bool, true, false, Option, Some, None, refl, sym, ◌∙◌, ap, subst, arith}
-use Rattle.std.specs.Prelude.{◌==◌, ◌&&◌, nat_le, nat_lt, is_some, slice_get, take, if◌then◌else◌}
-use Rattle.std.proofs.lemmas.Bool.{and_parts, cases_lt, eq-eqb, eqb-true, leb-true, ltb-true}
+use Rattle.std.proofs.Common.{◌≡◌, ℕ, zero, suc, ◌+◌, ◌-◌, ◌/◌, ◌<◌, ◌≤◌, ◌⊎◌, inl, inr, List, [], ◌∷◌, Bool, true, false, Option, Some, None, refl, sym, ◌∙◌, ap, arith}
+use Rattle.std.specs.Prelude.{◌==◌, nat_le, nat_lt, is_some, slice_get, take, if◌then◌else◌}
+use Rattle.std.proofs.lemmas.Bool.{and_parts, cases_lt, eqb-true, leb-true, ltb-true}
 use Rattle.std.proofs.lemmas.Bool.Decides.{nat_tests}
 use Rattle.pg_num.specs.Places.{ByteRange, IsPlace}
 use Rattle.pg_num.specs.declared.layout.TheConstants.{MEMORY_BYTES}
 use Rattle.pg_num.proofs.Granules.{IsPlace-in_granule}
 use Rattle.pg_ir.specs.declared.request.Request.{Request}
 use Rattle.pg_ir.specs.declared.request.Request.TheVariants as requests
-use Rattle.pg_ir.specs.Program.{NumberedProgram}
 use Rattle.pg_run_thread.specs.LocalState.{LocalState}
 use Rattle.pg_run_thread.specs.Step.{next}
 use Rattle.pg_run_thread.specs.declared.action.Action.{Action}
 use Rattle.pg_run_thread.specs.declared.action.Action.TheVariants as actions
 use Rattle.pg_run_trace.specs.Steps.{event_of}
 use Rattle.pg_law_threads.specs.Effects.{or_old}
-use Rattle.pg_law_effects.specs.Effect.{Write}
 use Rattle.pg_law_effects.specs.Meets.{byte_in, is_in}
 use Rattle.pg_law_runs.specs.Deeds.{Did}
 use Rattle.pg_law_course.specs.Course.{cells_before, course}

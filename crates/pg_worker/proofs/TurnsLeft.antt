@@ -9,7 +9,6 @@ use Rattle.pg_run_trace.specs.declared.schedule.Schedule.{Schedule}
 use Rattle.pg_run_trace.specs.declared.step.Step.{Step}
 use Rattle.pg_run_trace.specs.declared.turn.Turn.{Turn}
 use Rattle.pg_run.specs.Permitted.{has_turn, turns_left}
-use Rattle.pg_run.specs.Runs.{events}
 use Rattle.pg_run.specs.State.{initial}
 use Rattle.pg_law_effects.specs.PermittedSteps.{none_taken}
 use Rattle.pg_law_threads.specs.Effects.{deeds}
@@ -44,8 +43,8 @@ any_there t [] e = absurd cc
 any_there t (u ∷ us) e = go (u.thread.0 == t) refl (any_there t us)
   where
     go : (b : Bool) → (u.thread.0 == t) ≡ b → (has_turn t us ≡ true → (j : ℕ) × (slice_get (owners_of us) j ≡ Some t)) → (j : ℕ) × (slice_get (owners_of (u ∷ us)) j ≡ Some t)
-    go true q more = (0, ap (λ (n : ℕ). Some n) (eqb-true u.thread.0 t q))
-    go false q more = let m = more (ap (λ (b : Bool). b || has_turn t us) (sym q) ∙ e) in (suc m.0, m.1)
+    go true q rest = (0, ap (λ (n : ℕ). Some n) (eqb-true u.thread.0 t q))
+    go false q rest = let m = rest (ap (λ (b : Bool). b || has_turn t us) (sym q) ∙ e) in (suc m.0, m.1)
 
 fewer_below : (t g m : ℕ) (T : List ℕ) → g ≤ m → below t g T ≤ below t m T
 fewer_below t zero m T h = omega arith
@@ -61,11 +60,11 @@ fewer_below t (suc g) (suc m) (o ∷ T) h = go (t == o) (fewer_below t g m T (om
 
 grows : (g : ℕ) (ds : List Did) → g ≤ turns_done deeds g ds
 grows g [] = omega arith
-grows g (d ∷ ds) = go (deeds.is_event d) (grows (suc g) ds) (grows g ds)
+grows g (d ∷ ds) = go (deeds.is_event d) (λ n. grows n ds)
   where
-    go : (b : Bool) → suc g ≤ turns_done deeds (suc g) ds → g ≤ turns_done deeds g ds → g ≤ turns_done deeds (done_after b g) ds
-    go true k m = omega (arith, k)
-    go false k m = m
+    go : (b : Bool) → ((n : ℕ) → n ≤ turns_done deeds n ds) → g ≤ turns_done deeds (done_after b g) ds
+    go true rest = (let k = rest (suc g) in omega (arith, k))
+    go false rest = rest g
 
 pub passes : (g : ℕ) (xs : List Did) (d : Did) (ys : List Did) → deeds.is_event d ≡ true → suc (turns_done deeds g xs) ≤ turns_done deeds g (xs ++ d ∷ ys)
 passes g [] d ys e = subst (λ (b : Bool). suc g ≤ turns_done deeds (done_after b g) ys) (sym e) (grows (suc g) ys)

@@ -1,5 +1,5 @@
 -- What a pause of a worker says of the full guided run: that the worker did all of its thread's steps.
-use Rattle.std.proofs.Common.{◌≡◌, ℕ, zero, suc, ◌+◌, ◌<◌, ◌≤◌, ◌⊎◌, inl, inr, List, [], ◌∷◌, length, take, Bool, true, false, Some, refl, sym, ◌∙◌, ap, subst, arith}
+use Rattle.std.proofs.Common.{◌≡◌, ℕ, suc, ◌+◌, ◌<◌, ◌≤◌, ◌⊎◌, inl, inr, List, [], ◌∷◌, length, take, Bool, true, false, Some, refl, sym, ◌∙◌, ap, subst, arith}
 use Rattle.std.specs.Prelude.{◌==◌, ◌||◌, is_some, nat_le, slice_get, if◌then◌else◌}
 use Rattle.std.specs.List.{AllByRecursion}
 use Rattle.std.proofs.lemmas.Bool.{cases_lt, eqb-false, eqb-true, false_from_ne_true}
@@ -7,7 +7,6 @@ use Rattle.std.proofs.lemmas.Bool.Decides.{nat_tests}
 use Rattle.atomic_table.specs.Seated.{TableId}
 use Rattle.pg_num.specs.declared.layout.TheConstants.{MEMORY_BYTES}
 use Rattle.pg_num.specs.declared.limits.TheConstants.{GUIDED_STEP_LIMIT}
-use Rattle.pg_run.specs.declared.guided_end.GuidedEnd.{GuidedEnd}
 use Rattle.pg_run.specs.declared.guided_end.GuidedEnd.TheVariants as ends
 use Rattle.pg_run_thread.specs.declared.action.Action.{Action}
 use Rattle.pg_run_thread.specs.declared.action.Action.TheVariants as actions
@@ -16,11 +15,11 @@ use Rattle.pg_run_thread.specs.Told.{id_of}
 use Rattle.pg_law_threads.specs.Effects.{deeds}
 use Rattle.pg_law_runs.specs.Deeds.{Did, goes_on}
 use Rattle.pg_law_order.specs.Good.{run_along}
-use Rattle.pg_law_course.specs.Course.{course, next_turn, state_at, turns_before, turns_in}
+use Rattle.pg_law_course.specs.Course.{course, next_turn, state_at, turns_before}
 use Rattle.pg_law_course.specs.Plan.{turn_count}
 use Rattle.pg_law_course.specs.Prints.{numbers_printed, word_behind}
-use Rattle.pg_law_course.specs.Rests.{RestsAt, has_spent, held_end, is_trap, trap_end}
-use Rattle.pg_law_course.proofs.CoursePlaces.{get_length, take_all}
+use Rattle.pg_law_course.specs.Rests.{held_end, is_trap, trap_end}
+use Rattle.pg_law_course.proofs.CoursePlaces.{take_all}
 use Rattle.pg_law_course.proofs.RestingThreads.{rests_at}
 use Rattle.pg_seats.specs.declared.run.Run.{Run}
 use Rattle.pg_worker.specs.declared.worker.Worker.{Worker}

@@ -1,6 +1,6 @@
 //! The pages of memory that a worker wrote, so that they can be swept behind its run.
 
-ghost use Rattle.std.specs.Prelude.{◌≡◌, ◌<◌, ◌/◌, ℕ, length, true, false, IfOk, replicate, slice_index};
+ghost use Rattle.std.specs.Prelude.{◌≡◌, ◌<◌, ◌/◌, ℕ, length, true, false, IfOk, slice_index};
 ghost use Rattle.pg_num.specs.Places.{IsPlace};
 ghost use Rattle.pg_worker.specs.Pages.{is_marked, page_of};
 
@@ -20,14 +20,6 @@ pub struct Pages {
     pub ghost wide: { length words.items ≡ 1024 },
 }
 
-/// No bit is set.
-fn no_bits(alloc: Global) -> Result<Vec<u64>, AllocError>
-    ensures items { IfOk result (λ v. v.items ≡ replicate 1024 0) }
-    ensures wide { IfOk result (λ v. length v.items ≡ 1024) }
-{
-    vec![in alloc; 0_u64; 1024]
-}
-
 impl Pages {
     /// No page is marked.
     ///
@@ -37,7 +29,7 @@ impl Pages {
     pub fn new(alloc: Global) -> Result<Pages, AllocError>
         ensures none { IfOk result (λ p. (page : ℕ) → is_marked p.words.items page ≡ false) }
     {
-        let words = no_bits(alloc)?;
+        let words = vec![in alloc; 0; PAGE_WORDS as usize]?;
         Ok(Pages { words })
     }
 

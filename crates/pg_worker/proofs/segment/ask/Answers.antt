@@ -1,4 +1,3 @@
-use Rattle.std.proofs.Common.{◌≡◌}
 use Rattle.pg_worker.proofs.Segments.{it_asks, it_does}
 use Rattle.pg_worker.proofs.segment.ask.Goals as goal
 

@@ -1,7 +1,8 @@
-use Rattle.std.proofs.Common.{ℕ, List, ap, ◌∙◌}
-use Rattle.pg_worker.specs.Pages.{is_marked}
-use Rattle.pg_worker.proofs.PageMarks.{no_marks}
+use Rattle.std.proofs.Common.{◌≡◌, replicate}
+use Rattle.pg_worker.proofs.PageMarks.{none_marked}
 use Rattle.pg_worker.proofs.pages.Pages.new.Goals as goal
 
 pub returns : goal.returns
-returns c = record { none = λ page. ap (λ (ws : List ℕ). is_marked ws page) c.in_ok-words.ensures.items ∙ no_marks 1024 page }
+returns c =
+    let zeros : c.in_ok-words.words.items ≡ replicate 1024 0 = c.in_ok-words.ensures.items_if_clones_equal (λ y e. e) in
+    record { none = λ page. none_marked 1024 page c.in_ok-words.words.items zeros }

@@ -1,4 +1,4 @@
-use Rattle.std.proofs.Common.{◌∙◌, ap, refl, sym}
+use Rattle.std.proofs.Common.{refl}
 use Rattle.pg_worker.specs.Standing.{run_in, table_in}
 use Rattle.pg_worker.proofs.DueTurns.{looked_at, looked_due, looked_early, looked_went}
 use Rattle.pg_worker.proofs.worker.Worker.comes.Goals as goal

@@ -1,4 +1,4 @@
-use Rattle.std.proofs.Common.{[], ◌++◌, ◌∙◌, ap, sym}
+use Rattle.std.proofs.Common.{[], ◌++◌, ◌∙◌, ap}
 use Rattle.std.specs.List.{cons_option}
 use Rattle.pg_law_threads.specs.Effects.{or_old}
 use Rattle.pg_worker.proofs.DueTurns.{kept_of}

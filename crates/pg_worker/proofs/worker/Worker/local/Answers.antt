@@ -1,4 +1,3 @@
-use Rattle.std.proofs.Common.{◌∙◌, ap, refl}
 use Rattle.pg_worker.specs.Standing.{run_in, table_in}
 use Rattle.pg_worker.proofs.PlainSteps.{local_at}
 use Rattle.pg_worker.proofs.worker.Worker.local.Goals as goal

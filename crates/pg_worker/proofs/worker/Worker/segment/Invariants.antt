@@ -1,4 +1,3 @@
-use Rattle.std.proofs.Common.{◌≡◌}
 use Rattle.pg_worker.specs.Standing.{run_in, table_in}
 use Rattle.pg_worker.specs.Standing.{IsAt, WentOn}
 use Rattle.pg_worker.proofs.worker.Worker.segment.Given as goal

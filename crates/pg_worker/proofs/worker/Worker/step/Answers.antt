@@ -1,4 +1,4 @@
-use Rattle.std.proofs.Common.{◌≡◌, ◌-◌, ◌<◌, ◌∙◌, ap, length, refl, subst, suc, sym, arith}
+use Rattle.std.proofs.Common.{◌-◌, ◌∙◌, ap, refl, subst, sym, arith}
 use Rattle.pg_run_thread.specs.Step.{next}
 use Rattle.pg_worker.specs.declared.worker.Worker.{Worker}
 use Rattle.pg_worker.specs.Standing.{HasDone, IsAt, run_in, table_in}
