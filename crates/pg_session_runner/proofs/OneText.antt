@@ -1,10 +1,9 @@
 -- A session in rotation has one text: each line has one answer, and what is kept is alike.
-use Rattle.std.proofs.Common.{◌≡◌, ℕ, ℤ, zero, suc, ◌-◌, Bool, List, [], ◌∷◌, ◌++◌, length, map, drop, Option, Some, None, refl, sym, ap, ◌∙◌, subst}
+use Rattle.std.proofs.Common.{◌≡◌, ℕ, ℤ, zero, suc, ◌+◌, ◌-◌, Bool, List, [], ◌∷◌, ◌++◌, length, map, drop, Option, Some, None, refl, sym, ap, ◌∙◌, subst, arith}
 use Rattle.std.specs.Prelude.{Contains, slice_get}
 use Rattle.std.proofs.lemmas.List.Elements.{Contains-append_right}
 use Rattle.pg_cache.specs.Kept.{Kept, first_from, oldest, value_of, with_value, youngest}
 use Rattle.pg_ir.specs.Program.{NumberedProgram}
-use Rattle.pg_run.specs.Rotation.{rotation_of}
 use Rattle.pg_run.specs.State.{State}
 use Rattle.pg_run.specs.declared.outcome.Refusal.{Refusal}
 use Rattle.pg_run_trace.specs.declared.schedule.Schedule.{Schedule}
@@ -113,7 +112,7 @@ same_answer x y k o e =
 same_number : (m n : ℕ) → Some m ≡ Some n → m ≡ n
 same_number m n e = cc
 
-no_number : (n : ℕ) → Some n ≡ None {X = ℕ} → ⊥
+no_number : (n : ℕ) → Some n ≡ None → ⊥
 no_number n e = absurd cc
 
 record OneAnswer (x y : Answer) (next other : Kept EntryParts) : Type 0 where
