@@ -1,5 +1,4 @@
 mod PageMarks
-mod TurnLists
 mod NamedStarts
 mod MainCreates
 mod StepLeaves
