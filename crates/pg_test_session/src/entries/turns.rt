@@ -51,3 +51,17 @@ fn turns_of_main_admit_each_input(rt: HostRuntime) -> Result<(), Fail> {
     }
     Ok(())
 }
+
+/// Guided runs that end behind main's start: one traps, and one would take a step more than a recording may have.
+#[test]
+fn turns_of_unfinished_runs(rt: HostRuntime) -> Result<(), Fail> {
+    let turns = [turn(0, TurnKind::Start), turn(3, TurnKind::Out)];
+    for sample in [Sample::SkippedBlock, Sample::Circle] {
+        let p = sample.program(rt.alloc())?;
+        match entry_of(rt.alloc(), &p, &[], &turns) {
+            Ok(_) => assert!(&rt; false),
+            Err(fault) => assert_eq!(&rt; fault, FromFault::Unfinished),
+        }
+    }
+    Ok(())
+}

@@ -1,11 +1,18 @@
 //! Worked rows: each footprint beside whether it conflicts with one that it minds.
 
+ghost use Rattle.std.specs.Prelude.{◌≡◌, ◌≤◌, IfOk};
+ghost use Rattle.pg_slice_conflicts.specs.Meets.{InOrder};
+
 use pg_ir::ThreadNo;
-use pg_slice_conflicts::{Footprint, conflicts_by_pairs};
+use pg_slice_conflicts::{Footprint, conflicts, conflicts_by_pairs};
+use std::alloc::{AllocError, Global};
 use std::test::Fail;
 
 /// A write of eight bytes of an access, from a byte on.
-fn write(thread: u8, low: u32, high: u32, start: u64) -> Footprint {
+fn write(thread: u8, low: u32, high: u32, start: u64) -> Footprint
+    ensures low { result.low ≡ low }
+    ensures high { result.high ≡ high }
+{
     Footprint {
         thread: ThreadNo(thread),
         low,
@@ -74,5 +81,29 @@ fn ranges_may_be_empty_or_pass_all_addresses(rt: HostRuntime) -> Result<(), Fail
     last.bytes = 100;
     let met = conflicts_by_pairs(rt.alloc(), &[empty, all, last])?;
     assert_eq!(rt; met.as_slice(), [false, true, true].as_slice());
+    Ok(())
+}
+
+/// So many writes, each of bytes of its own but for every fourth, which is of the bytes of the one before it by another thread.
+fn writes(alloc: Global, count: u32) -> Result<Vec<Footprint>, AllocError>
+    ensures { IfOk result (λ v. InOrder v.items) }
+{
+    let mut writes = Vec::new(alloc);
+    for k in 0..count {
+        let start = if k % 4 == 3 { k - 1 } else { k };
+        writes.push(write((k % 2) as u8, k, u32::MAX, 8 * u64::from(start)))?;
+    }
+    Ok(writes)
+}
+
+/// More footprints than a small tree has leaves.
+#[test]
+fn twenty_thousand_footprints(rt: HostRuntime) -> Result<(), Fail> {
+    let writes = writes(rt.alloc(), 20_000)?;
+    let met = conflicts(rt.alloc(), writes.as_slice())?;
+    assert_eq!(rt; met.len(), 20_000);
+    for k in 0..met.len() {
+        assert_eq!(rt; met.as_slice()[k], k % 4 >= 2);
+    }
     Ok(())
 }
