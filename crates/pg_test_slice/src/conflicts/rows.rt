@@ -9,10 +9,7 @@ use std::alloc::{AllocError, Global};
 use std::test::Fail;
 
 /// A write of eight bytes of an access, from a byte on.
-fn write(thread: u8, low: u32, high: u32, start: u64) -> Footprint
-    ensures low { result.low ≡ low }
-    ensures high { result.high ≡ high }
-{
+fn write(thread: u8, low: u32, high: u32, start: u64) -> Footprint {
     Footprint {
         thread: ThreadNo(thread),
         low,
@@ -84,26 +81,43 @@ fn ranges_may_be_empty_or_pass_all_addresses(rt: HostRuntime) -> Result<(), Fail
     Ok(())
 }
 
-/// So many writes, each of bytes of its own but for every fourth, which is of the bytes of the one before it by another thread.
-fn writes(alloc: Global, count: u32) -> Result<Vec<Footprint>, AllocError>
+/// A write of eight bytes of an access, from a byte on, whose interval goes on behind this turn.
+fn long_write(thread: u8, low: u32, start: u64) -> Footprint
+    ensures low { result.low ≡ low }
+    ensures high { low ≤ result.high }
+{
+    Footprint {
+        thread: ThreadNo(thread),
+        low,
+        high: low.saturating_add(9),
+        start,
+        bytes: 8,
+        writes: true,
+        of_region: false,
+    }
+}
+
+/// So many of them, one a turn. Of each four the last two write the same bytes, by two threads; the others have bytes of their own.
+fn long_writes(alloc: Global, count: u32) -> Result<Vec<Footprint>, AllocError>
     ensures { IfOk result (λ v. InOrder v.items) }
 {
-    let mut writes = Vec::new(alloc);
+    let mut footprints = Vec::new(alloc);
     for k in 0..count {
-        let start = if k % 4 == 3 { k - 1 } else { k };
-        writes.push(write((k % 2) as u8, k, u32::MAX, 8 * u64::from(start)))?;
+        let place = 4 * u64::from(k / 4) + u64::from((k % 4).min(2));
+        footprints.push(long_write((k % 2) as u8, k, 8 * place))?;
     }
-    Ok(writes)
+    Ok(footprints)
 }
 
 /// More footprints than a small tree has leaves.
 #[test]
 fn twenty_thousand_footprints(rt: HostRuntime) -> Result<(), Fail> {
-    let writes = writes(rt.alloc(), 20_000)?;
-    let met = conflicts(rt.alloc(), writes.as_slice())?;
-    assert_eq!(rt; met.len(), 20_000);
-    for k in 0..met.len() {
-        assert_eq!(rt; met.as_slice()[k], k % 4 >= 2);
+    let footprints = long_writes(rt.alloc(), 20_000)?;
+    let met = conflicts(rt.alloc(), footprints.as_slice())?;
+    let mut expected = Vec::new(rt.alloc());
+    for k in 0_u32..20_000 {
+        expected.push(k % 4 >= 2)?;
     }
+    assert_eq!(rt; met.as_slice(), expected.as_slice());
     Ok(())
 }

@@ -1,6 +1,6 @@
 use Rattle.pg_slice_conflicts.specs.Meets.{InOrder}
 use Rattle.pg_test_slice.proofs.FootprintsInOrder.{AreUpTo}
-use Rattle.pg_test_slice.proofs.conflicts.rows.writes.Given as goal
+use Rattle.pg_test_slice.proofs.conflicts.rows.long_writes.Given as goal
 
 abbrev pub invariant-loop-k : goal.invariant-loop-k
-invariant-loop-k l = InOrder l.writes.items × AreUpTo l.k l.writes.items
+invariant-loop-k l = InOrder l.footprints.items × AreUpTo l.k l.footprints.items
