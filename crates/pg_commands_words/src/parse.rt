@@ -239,8 +239,8 @@ fn serve_with(
 ) -> Result<Option<Serve>, AllocError>
     ensures some { IfOk result (λ c. IfSome c (λ c. HasSession (given_of options.now) (map (λ text. text.now) texts.now)
         (string_bytes c.file) c.way (option_map string_bytes c.book) c.only c.json)) }
-    ensures none { IfOk result (λ c. IfNone c ((file : Word) (way : RecordingWay) (book : Option Word) (only json : Bool)
-        → HasSession (given_of options.now) (map (λ text. text.now) texts.now) file way book only json → ⊥)) }
+    ensures none { IfOk result (λ c. IfNone c ((file : Word) (way : RecordingWay) (named : Option Word) (only json : Bool)
+        → HasSession (given_of options.now) (map (λ text. text.now) texts.now) file way named only json → ⊥)) }
 {
     let Some(way) = chosen_way(options) else {
         return Ok(None);
