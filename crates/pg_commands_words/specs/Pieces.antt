@@ -46,14 +46,17 @@ takes_value Book = true
 takes_value Only = false
 takes_value Json = false
 
+-- the options in an order
+abbrev pub place_of : OptionName → ℕ
+place_of Quantum = 0
+place_of Seed = 1
+place_of Free = 2
+place_of Book = 3
+place_of Only = 4
+place_of Json = 5
+
 abbrev pub same_option : OptionName → OptionName → Bool
-same_option Quantum Quantum = true
-same_option Seed Seed = true
-same_option Free Free = true
-same_option Book Book = true
-same_option Only Only = true
-same_option Json Json = true
-same_option _ _ = false
+same_option option other = place_of option == place_of other
 
 -- ---- pieces
 
