@@ -73,14 +73,14 @@ role-by option word r e = by-word (bytes_eq word (option_word option)) refl e
         let front = option_word option ++ codes "=" in
         let begins : starts_with nat_eq word front ≡ true = and-right (takes_value option) (starts_with nat_eq word front) h in
         let whole : word ≡ front ++ drop (length front) word = (starts_is Decides-eqb word front (starts_with nat_eq word front) refl).0 begins in
-        let use : IsRole word (Whole option) = record {
+        let is_use : IsRole word (Whole option) = record {
           piece = joined option (drop (length front) word);
           value = drop (length front) word;
           spelled = ap (λ w. w ∷ []) (whole ∙ again (option_word option) (drop (length front) word));
           plain = and-left (takes_value option) (starts_with nat_eq word front) h;
           uses = λ o. refl;
         } in
-        subst (IsRole word) (some-role (Whole option) r e) use
+        subst (IsRole word) (some-role (Whole option) r e) is_use
     by-joined false h e = absurd (none≢role r e)
 
     by-word : (b : Bool) → bytes_eq word (option_word option) ≡ b → cond b (Some (opening option)) (cond (is_joined option word) (Some (Whole option)) None) ≡ Some r → IsRole word r
@@ -92,33 +92,33 @@ either None b r e = inr e
 either (Some x) b r e = inl e
 
 role-found : (word : Word) (r : Role) → option_role word ≡ Some r → IsRole word r
-role-found word r e = json (either _ _ r e)
+role-found word r e = json (either (option_or (option_or (option_or (option_or (role_as Quantum word) (role_as Seed word)) (role_as Free word)) (role_as Book word)) (role_as Only word)) (role_as Json word) r e)
   where
     quantum : (role_as Quantum word ≡ Some r) ⊎ (role_as Seed word ≡ Some r) → IsRole word r
     quantum (inl h) = role-by Quantum word r h
     quantum (inr h) = role-by Seed word r h
 
     free : (option_or (role_as Quantum word) (role_as Seed word) ≡ Some r) ⊎ (role_as Free word ≡ Some r) → IsRole word r
-    free (inl h) = quantum (either _ _ r h)
+    free (inl h) = quantum (either (role_as Quantum word) (role_as Seed word) r h)
     free (inr h) = role-by Free word r h
 
     book : (option_or (option_or (role_as Quantum word) (role_as Seed word)) (role_as Free word) ≡ Some r) ⊎ (role_as Book word ≡ Some r) → IsRole word r
-    book (inl h) = free (either _ _ r h)
+    book (inl h) = free (either (option_or (role_as Quantum word) (role_as Seed word)) (role_as Free word) r h)
     book (inr h) = role-by Book word r h
 
     only : (option_or (option_or (option_or (role_as Quantum word) (role_as Seed word)) (role_as Free word)) (role_as Book word) ≡ Some r) ⊎ (role_as Only word ≡ Some r) → IsRole word r
-    only (inl h) = book (either _ _ r h)
+    only (inl h) = book (either (option_or (option_or (role_as Quantum word) (role_as Seed word)) (role_as Free word)) (role_as Book word) r h)
     only (inr h) = role-by Only word r h
 
     json : (option_or (option_or (option_or (option_or (role_as Quantum word) (role_as Seed word)) (role_as Free word)) (role_as Book word)) (role_as Only word) ≡ Some r) ⊎ (role_as Json word ≡ Some r) → IsRole word r
-    json (inl h) = only (either _ _ r h)
+    json (inl h) = only (either (option_or (option_or (option_or (role_as Quantum word) (role_as Seed word)) (role_as Free word)) (role_as Book word)) (role_as Only word) r h)
     json (inr h) = role-by Json word r h
 
 -- a plain word, or an option
-role-is : (word : Word) (r : Role) → role_of word ≡ Some r → (is_name word ≡ true) × (r ≡ Plain) ⊎ IsRole word r
+role-is : (word : Word) (r : Role) → role_of word ≡ Some r → ((is_name word ≡ true) × (r ≡ Plain)) ⊎ IsRole word r
 role-is word r e = by (is_name word) refl e
   where
-    by : (b : Bool) → is_name word ≡ b → cond b (Some Plain) (option_role word) ≡ Some r → (is_name word ≡ true) × (r ≡ Plain) ⊎ IsRole word r
+    by : (b : Bool) → is_name word ≡ b → cond b (Some Plain) (option_role word) ≡ Some r → ((is_name word ≡ true) × (r ≡ Plain)) ⊎ IsRole word r
     by true h e = inl (h, sym (some-role Plain r e))
     by false h e = inr (role-found word r e)
 
@@ -136,14 +136,14 @@ FoundFrom seen false words = Found seen words
 FoundFrom seen true words = (value : Word) × (rest : List Word) × (words ≡ value ∷ rest) × (begins_with_hyphen value ≡ false) × Found seen rest
 
 found-none : (seen : Seen) → Found seen []
-found-none seen = record { line = record { pieces = []; end = None }; spelled = refl; plain = refl; fresh = λ o. (λ h. refl, omega arith) }
+found-none seen = record { line = record { pieces = []; end = None }; spelled = refl; plain = refl; fresh = λ o. ((λ h. refl), omega arith) }
 
 found-end : (seen : Seen) (word : Word) (words : List Word) → bytes_eq word (codes "--") ≡ true → Found seen (word ∷ words)
 found-end seen word words e = record {
   line = record { pieces = []; end = Some words };
   spelled = ap (λ w. w ∷ words) ((bytes_eq-Decides word (codes "--")).0 e);
   plain = refl;
-  fresh = λ o. (λ h. refl, omega arith);
+  fresh = λ o. ((λ h. refl), omega arith);
 }
 
 found-name : (seen : Seen) (word : Word) (words : List Word) → is_name word ≡ true → Found seen words → Found seen (word ∷ words)
@@ -204,7 +204,7 @@ found-first seen word words more e = by-end (bytes_eq word (codes "--")) refl e
     opens option true h u e = absurd (false≢true e)
     opens option false h u e = found-opens seen word words option u.0 u.1 h (more (seen_more seen option) true e)
 
-    by-role : (r : Role) → (is_name word ≡ true) × (r ≡ Plain) ⊎ IsRole word r → goes_on (λ next. is_line_from next words) (after_role seen (Some r)) ≡ true → Found seen (word ∷ words)
+    by-role : (r : Role) → ((is_name word ≡ true) × (r ≡ Plain)) ⊎ IsRole word r → goes_on (λ next. is_line_from next words) (after_role seen (Some r)) ≡ true → Found seen (word ∷ words)
     by-role Plain (inl h) e = found-name seen word words h.0 (more seen false e)
     by-role Plain (inr h) e = absurd h
     by-role (Whole option) (inl h) e = absurd (whole-no-plain option h.1)
@@ -231,7 +231,7 @@ found-value seen word words rest e = by (begins_with_hyphen word) refl e
 found : (words : List Word) (seen : Seen) (waits : Bool) → is_line_from (standing seen waits) words ≡ true → FoundFrom seen waits words
 found [] seen false e = found-none seen
 found [] seen true e = absurd (false≢true e)
-found (word ∷ words) seen false e = found-first seen word words (λ next waits h. found words next waits h) e
+found (word ∷ words) seen false e = found-first seen word words (found words) e
 found (word ∷ words) seen true e = found-value seen word words (found words seen false) e
 
 pub line-found : (words : List Word) → is_line words ≡ true → IsLine words
@@ -264,7 +264,7 @@ opening-role Book e = refl
 opening-role Only e = absurd (false≢true e)
 opening-role Json e = absurd (false≢true e)
 
-joined-role : (o : OptionName) (value : Word) → takes_value o ≡ true → role_of (option_word o ++ codes "=" ++ value) ≡ Some (Whole o)
+joined-role : (o : OptionName) (value : Word) → takes_value o ≡ true → role_of (option_word o ++ (codes "=" ++ value)) ≡ Some (Whole o)
 joined-role Quantum value e = refl
 joined-role Seed value e = refl
 joined-role Free value e = absurd (false≢true e)
@@ -280,7 +280,7 @@ option-no-end Book = refl
 option-no-end Only = refl
 option-no-end Json = refl
 
-joined-no-end : (o : OptionName) (value : Word) → bytes_eq (option_word o ++ codes "=" ++ value) (codes "--") ≡ false
+joined-no-end : (o : OptionName) (value : Word) → bytes_eq (option_word o ++ (codes "=" ++ value)) (codes "--") ≡ false
 joined-no-end Quantum value = refl
 joined-no-end Seed value = refl
 joined-no-end Free value = refl
@@ -319,7 +319,7 @@ passes (flag o ∷ pieces) end seen plain fresh =
 passes (joined o value ∷ pieces) end seen plain fresh =
     let takes = and-left (takes_value o) (list_all is_plain pieces) plain in
     let more = passes pieces end (seen_more seen o) (and-right (takes_value o) (list_all is_plain pieces) plain) (behind seen o value pieces fresh) in
-    steps seen (option_word o ++ codes "=" ++ value) _ (Whole o) (joined-no-end o value) (joined-role o value takes)
+    steps seen (option_word o ++ (codes "=" ++ value)) _ (Whole o) (joined-no-end o value) (joined-role o value takes)
     (first-seen seen o false _ (not-given (has_seen seen) o value pieces fresh) more)
 passes (apart o value ∷ pieces) end seen plain fresh =
     let here = and-left (takes_value o && not (begins_with_hyphen value)) (list_all is_plain pieces) plain in
@@ -337,4 +337,4 @@ true-no-false true e h = false≢true (sym e)
 true-no-false false e h = false≢true h
 
 pub line-passes : (line : Line) → list_all is_plain line.pieces ≡ true → ((o : OptionName) → length (uses_of o line.pieces) ≤ 1) → is_line (words_of line) ≡ true
-line-passes line plain once = passes line.pieces line.end nothing_seen plain (λ o. (λ h. absurd (true-no-false (has_seen nothing_seen o) (none-seen o) h), once o))
+line-passes line plain once = passes line.pieces line.end nothing_seen plain (λ o. ((λ h. absurd (true-no-false (has_seen nothing_seen o) (none-seen o) h)), once o))

@@ -24,7 +24,7 @@ use Rattle.pg_commands_words.specs.Pieces.{Given, Line, Word, given_in, is_plain
 use Rattle.pg_commands_words.specs.Values.{chosen_way, number_of, quantum_of, seed_of, trial_of, way_of}
 use Rattle.pg_commands_words.specs.Lines.{IsLine, is_line, name_of_line, name_word, named}
 use Rattle.pg_commands_words.proofs.Lines.{line-found, line-passes}
-use Rattle.pg_commands_words.proofs.Rows.{given-found, rows_found, words-found}
+use Rattle.pg_commands_words.proofs.Rows.{IsFine, given-found, rows_found, words-found}
 use Rattle.pg_commands_words.proofs.Found.{line-rows, line-taken}
 
 -- ---- the name and a line
@@ -87,7 +87,7 @@ named-word Trial = refl
 -- the words of a command begin with its name
 pub name-passes : (words : List Word) (meaning : Meaning) → IsWritten words meaning → name_of_line words ≡ Some (name_of meaning)
 name-passes words meaning m =
-    ap name_of_line m.spelled ∙ ap (λ b. cond b (named (name_word (name_of meaning))) None) (line-passes m.line m.plain m.once) ∙ named-word (name_of meaning)
+    ap name_of_line m.spelled ∙ ap (λ b. cond b (named (name_word (name_of meaning))) None) (line-passes m.line m.plain m.at_most_once) ∙ named-word (name_of meaning)
 
 pub taken : (words : List Word) (name : Name) → name_of_line words ≡ Some name → takes program_app words ≡ true
 taken words name e = let l = name-found words name e in ap (takes program_app) l.spelled ∙ line-taken name l.rest l.line
@@ -98,7 +98,7 @@ pub name-read : (words : List Word) (name : Name) (meaning : Meaning) → name_o
 name-read words name meaning e r =
     let l = name-found words name e in
     let line = l.line.line in
-    let fine = (l.line.plain, l.line.once) in
+    let fine : IsFine line = (l.line.plain, l.line.once) in
     let found : subcommand_of program_app words ≡ Some (name_word name, rows_found line) = ap (subcommand_of program_app) l.spelled ∙ line-rows name l.rest l.line in
     let g : SaysOf name (given_of_rows (rows_found line)) (words_in (rows_found line)) meaning = subst (λ f. Reads name f meaning) found r in
     let h : Says (given_in line) (positionals_of line) meaning =
@@ -107,7 +107,7 @@ name-read words name meaning e r =
       line = line;
       spelled = l.spelled ∙ ap (λ ws. name_word name ∷ ws) l.line.spelled ∙ ap (λ n. name_word n ∷ words_of line) (sym g.0);
       plain = l.line.plain;
-      once = l.line.once;
+      at_most_once = l.line.once;
       says = h;
     }
 
@@ -115,8 +115,8 @@ name-read words name meaning e r =
 pub reads : (words : List Word) (meaning : Meaning) → IsWritten words meaning → Reads (name_of meaning) (subcommand_of program_app words) meaning
 reads words meaning m =
     let line = m.line in
-    let fine = (m.plain, m.once) in
-    let l : IsLine (words_of line) = record { line = line; spelled = refl; plain = m.plain; once = m.once } in
+    let fine : IsFine line = (m.plain, m.at_most_once) in
+    let l : IsLine (words_of line) = record { line = line; spelled = refl; plain = m.plain; once = m.at_most_once } in
     let found : subcommand_of program_app words ≡ Some (name_word (name_of meaning), rows_found line) =
     ap (subcommand_of program_app) m.spelled ∙ line-rows (name_of meaning) (words_of line) l in
     let h : Says (given_of_rows (rows_found line)) (words_in (rows_found line)) meaning =
@@ -261,12 +261,19 @@ seeded-way (Some s) f w e = subst IsWay (same-way (Seeded s) w e) (f s refl)
 seed-range : (text : Word) (s : ℕ) → seed_of text ≡ Some s → s < 2 ^ 64
 seed-range text s e = let most = up-to text (2 ^ 64 - 1) s e in omega (arith, most)
 
+default-way : IsWay (Rotating DEFAULT_QUANTUM)
+default-way = (omega arith, omega arith)
+
+free-way : IsWay Free
+free-way = tt
+
 is-way : (q s : Option Word) (f : Bool) (w : RecordingWay) → way_of q s f ≡ Some w → IsWay w
-is-way None None false w e = subst IsWay (same-way (Rotating DEFAULT_QUANTUM) w e) (omega arith, omega arith)
+is-way None None false w e = subst IsWay (same-way (Rotating DEFAULT_QUANTUM) w e) default-way
 is-way (Some text) None false w e = rotating-way (quantum_of text) (value-range text) w e
 is-way None (Some text) false w e = seeded-way (seed_of text) (seed-range text) w e
-is-way None None true w e = subst IsWay (same-way Free w e) tt
-is-way (Some text) (Some other) f w e = absurd (none≢way w e)
+is-way None None true w e = subst IsWay (same-way Free w e) free-way
+is-way (Some text) (Some other) true w e = absurd (none≢way w e)
+is-way (Some text) (Some other) false w e = absurd (none≢way w e)
 is-way (Some text) None true w e = absurd (none≢way w e)
 is-way None (Some text) true w e = absurd (none≢way w e)
 

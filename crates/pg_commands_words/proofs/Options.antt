@@ -205,7 +205,7 @@ not-given given used value pieces f = by (given used) refl
 -- behind the use no more is given than it and what was given before
 pub fresh-more : (given after : OptionName → Bool) (used : OptionName) (value : Word) (pieces : List Piece)
     → ((o : OptionName) → after o ≡ true → (same_option o used ≡ true) ⊎ (given o ≡ true)) → FreshUse given used value pieces → Fresh after pieces
-fresh-more given after used value pieces grows f = λ o. (λ h. none o (grows o h), rest-few (same_option o used) value (uses_of o pieces) (f o).1)
+fresh-more given after used value pieces grows f = λ o. ((λ h. none o (grows o h)), rest-few (same_option o used) value (uses_of o pieces) (f o).1)
   where
     none : (o : OptionName) → (same_option o used ≡ true) ⊎ (given o ≡ true) → uses_of o pieces ≡ []
     none o (inl same) = last-use (same_option o used) value (uses_of o pieces) same (f o).1
@@ -227,6 +227,6 @@ true-no-false false e h = false≢true h
 pub fresh-less : (given after : OptionName → Bool) (used : OptionName) (value : Word) (pieces : List Piece)
     → ((o : OptionName) → given o ≡ true → after o ≡ true) → after used ≡ true → given used ≡ false → Fresh after pieces → FreshUse given used value pieces
 fresh-less given after used value pieces keeps is_after first f = λ o. (
-  λ h. none-yet (same_option o used) value (uses_of o pieces) (λ same. true-no-false (given used) first (subst (λ p. given p ≡ true) (same-is o used same) h)) ((f o).0 (keeps o h)),
+  (λ h. none-yet (same_option o used) value (uses_of o pieces) (λ same. true-no-false (given used) first (subst (λ p. given p ≡ true) (same-is o used same) h)) ((f o).0 (keeps o h))),
   few-yet (same_option o used) value (uses_of o pieces) (λ same. (f o).0 (subst (λ p. after p ≡ true) (sym (same-is o used same)) is_after)) (f o).1,
 )

@@ -163,8 +163,14 @@ first_text o = option_and_then (λ (r : Row). slice_get r.values 0) o
 abbrev is_of : OptionName → Row → Bool
 is_of o r = bytes_eq r.id (long_name o)
 
+abbrev words_row : Word → Row
+words_row word = record { id = codes "words"; values = word ∷ []; count = None; source = Some CommandLine; reading = reading_by built_words }
+
+abbrev more_row : Row → Word → Row
+more_row r word = record r { values = r.values ++ word ∷ []; source = Some (stronger r.source CommandLine) }
+
 text-number : (o : OptionName) (rows : List Row) (word : Word) → text_in o (with_number rows word) ≡ text_in o rows
-text-number o [] word = ap (λ b. first_text (cond b (Some (record { id = codes "words"; values = word ∷ []; count = None; source = Some CommandLine; reading = reading_by built_words })) None)) (words-no o)
+text-number o [] word = ap (λ b. first_text (cond b (Some (words_row word)) None)) (words-no o)
 text-number o (r ∷ rs) word = by (bytes_eq r.id (codes "words")) refl (text-number o rs word)
   where
     step : (b : Bool) → text_in o (with_number rs word) ≡ text_in o rs
@@ -178,8 +184,7 @@ text-number o (r ∷ rs) word = by (bytes_eq r.id (codes "words")) refl (text-nu
     by : (b : Bool) → bytes_eq r.id (codes "words") ≡ b → text_in o (with_number rs word) ≡ text_in o rs
         → first_text (find (is_of o) (cond b (more_values CommandLine (word ∷ []) r ++ rs) (r ∷ with_number rs word))) ≡ first_text (cond (is_of o r) (Some r) (find (is_of o) rs))
     by true h e =
-        let changed = λ (b : Bool). first_text (cond b (Some (record r { values = r.values ++ word ∷ []; source = Some (stronger r.source CommandLine) })) (find (is_of o) rs)) in
-        ap changed (other h) ∙ sym (ap (λ b. first_text (cond b (Some r) (find (is_of o) rs))) (other h))
+        ap (λ b. first_text (cond b (Some (more_row r word)) (find (is_of o) rs))) (other h) ∙ sym (ap (λ b. first_text (cond b (Some r) (find (is_of o) rs))) (other h))
     by false h e = step (is_of o r) e
 
 -- ---- one more row of an option
@@ -206,8 +211,8 @@ find-more o p source values rows =
 -- another option's text stays
 text-other : (o p : OptionName) (source : ValueSource) (values : List Word) (rows : List Row) → same_option p o ≡ false
     → text_in p (rows ++ row_of_use o source values ∷ []) ≡ text_in p rows
-text-other o p source values rows apart =
-    ap first_text (find-more o p source values rows ∙ ap (λ b. option_or (find (is_of p) rows) (cond b (Some (row_of_use o source values)) None)) apart ∙ or-none (find (is_of p) rows))
+text-other o p source values rows differ =
+    ap first_text (find-more o p source values rows ∙ ap (λ b. option_or (find (is_of p) rows) (cond b (Some (row_of_use o source values)) None)) differ ∙ or-none (find (is_of p) rows))
 
 -- its own text is the first value
 text-own : (o p : OptionName) (source : ValueSource) (values : List Word) (rows : List Row) → same_option p o ≡ true → has_option p rows ≡ false
@@ -218,9 +223,9 @@ text-own o p source values rows same none =
 
 words-more : (o : OptionName) (source : ValueSource) (values : List Word) (rows : List Row) → words_in (rows ++ row_of_use o source values ∷ []) ≡ words_in rows
 words-more o source values rows =
-    let is_words = λ (r : Row). bytes_eq r.id (codes "words") in
     ap (λ f. unwrap_or (option_map (λ (r : Row). r.values) f) [])
-    (find-append is_words rows (row_of_use o source values ∷ []) ∙ ap (λ b. option_or (find is_words rows) (cond b (Some (row_of_use o source values)) None)) (no-words o) ∙ or-none (find is_words rows))
+    (find-append (λ (r : Row). bytes_eq r.id (codes "words")) rows (row_of_use o source values ∷ [])
+    ∙ ap (λ b. option_or (find (λ (r : Row). bytes_eq r.id (codes "words")) rows) (cond b (Some (row_of_use o source values)) None)) (no-words o) ∙ or-none _)
 
 -- ---- all of a line
 
@@ -256,7 +261,7 @@ behind rows o value values pieces f = fresh-more (given rows) (given (with_use o
 
 -- a use is one of its option's
 abbrev IsOne : OptionName → List Word → Word → Type 0
-IsOne o values value = (takes_value o ≡ true) × (values ≡ value ∷ []) ⊎ (takes_value o ≡ false) × (values ≡ [])
+IsOne o values value = ((takes_value o ≡ true) × (values ≡ value ∷ [])) ⊎ ((takes_value o ≡ false) × (values ≡ []))
 
 one-new : (o : OptionName) (values : List Word) (value : Word) (rows : List Row) → IsOne o values value → has_option o rows ≡ false
     → with_use o values rows ≡ rows ++ row_of_use o CommandLine (text_of_use (takes_value o) value ∷ []) ∷ []
@@ -272,7 +277,7 @@ ArePlain pieces = list_all is_plain pieces ≡ true
 text-pieces : (p : OptionName) (pieces : List Piece) (rows : List Row) → ArePlain pieces → Fresh (given rows) pieces → text_in p (fold with_piece rows pieces) ≡ text_then p rows (uses_of p pieces)
 text-pieces p [] rows plain fresh = sym (or-none (text_in p rows))
 text-pieces p (positional word ∷ pieces) rows plain fresh =
-    text-pieces p pieces (with_number rows word) (and-right (is_name word) (list_all is_plain pieces) plain) (λ o. (λ h. (fresh o).0 (sym (number-keeps o rows word) ∙ h), (fresh o).1))
+    text-pieces p pieces (with_number rows word) (and-right (is_name word) (list_all is_plain pieces) plain) (λ o. ((λ h. (fresh o).0 (sym (number-keeps o rows word) ∙ h)), (fresh o).1))
     ∙ ap (λ t. option_or t (shown (takes_value p) (uses_of p pieces))) (text-number p rows word)
 text-pieces p (flag o ∷ pieces) rows plain fresh =
     let none = not-given (given rows) o [] pieces fresh in
@@ -305,7 +310,7 @@ words-use o values rows none = by (use-new o values rows none)
 words-pieces : (pieces : List Piece) (rows : List Row) → Fresh (given rows) pieces → words_in (fold with_piece rows pieces) ≡ words_in rows ++ filter_map positional_in pieces
 words-pieces [] rows fresh = sym (append-nil (words_in rows))
 words-pieces (positional word ∷ pieces) rows fresh =
-    words-pieces pieces (with_number rows word) (λ o. (λ h. (fresh o).0 (sym (number-keeps o rows word) ∙ h), (fresh o).1))
+    words-pieces pieces (with_number rows word) (λ o. ((λ h. (fresh o).0 (sym (number-keeps o rows word) ∙ h)), (fresh o).1))
     ∙ ap (λ xs. xs ++ filter_map positional_in pieces) (words-number rows word) ∙ append_assoc (words_in rows) (word ∷ []) (filter_map positional_in pieces)
 words-pieces (flag o ∷ pieces) rows fresh =
     words-pieces pieces (with_use o [] rows) (behind rows o [] [] pieces fresh)
@@ -366,12 +371,12 @@ default-of Json rows = elim (flag-default Json rows (has_option Json rows) refl)
 default-text : (o p : OptionName) (rows : List Row) → takes_value p ≡ true → text_in p (with_default rows (built_option o)) ≡ text_in p rows
 default-text o p rows takes = elim (default-of o rows) [
   | inl e ↦ ap (text_in p) e
-  | inr e ↦ ap (text_in p) e.2 ∙ text-other o p DefaultValue (codes "false" ∷ []) rows (apart (same_option p o) refl e.1)
+  | inr e ↦ ap (text_in p) e.2 ∙ text-other o p DefaultValue (codes "false" ∷ []) rows (differ (same_option p o) refl e.1)
 ]
   where
-    apart : (b : Bool) → same_option p o ≡ b → takes_value o ≡ false → b ≡ false
-    apart false h e = refl
-    apart true h e = absurd (false≢true (sym e ∙ ap takes_value (sym (same-is p o h)) ∙ takes))
+    differ : (b : Bool) → same_option p o ≡ b → takes_value o ≡ false → b ≡ false
+    differ false h e = refl
+    differ true h e = absurd (false≢true (sym e ∙ ap takes_value (sym (same-is p o h)) ∙ takes))
 
 default-flag : (o p : OptionName) (rows : List Row) → is_set (text_in p (with_default rows (built_option o))) ≡ is_set (text_in p rows)
 default-flag o p rows = elim (default-of o rows) [
@@ -405,7 +410,7 @@ abbrev pub IsFine : Line → Type 0
 IsFine line = (list_all is_plain line.pieces ≡ true) × ((o : OptionName) → length (uses_of o line.pieces) ≤ 1)
 
 pub fresh-start : (line : Line) → IsFine line → Fresh (given []) line.pieces
-fresh-start line f = λ o. (λ h. absurd (false≢true h), f.1 o)
+fresh-start line f = λ o. ((λ h. absurd (false≢true h)), f.1 o)
 
 pub words-found : (line : Line) → IsFine line → words_in (rows_found line) ≡ positionals_of line
 words-found line f =

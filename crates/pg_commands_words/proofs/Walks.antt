@@ -7,10 +7,10 @@ use Rattle.std.proofs.lemmas.Slice.Eq.{bytes_eq-Decides}
 use Rattle.clap.specs.Walk.{Held, Row, Rule, Waiting, Walk, has_row, idle, is_pending, option, positional_held, pushed, reacted, settled, used, walked}
 use Rattle.clap.specs.Walk as clap
 use Rattle.clap.specs.Takes.{settle_passes, turn_passes, walk_passes}
-use Rattle.clap.specs.Simple.{Shape, filled, with_index}
+use Rattle.clap.specs.Simple.{Shape}
 use Rattle.clap.proofs.OnLiterals.{clap_on_literals}
 use Rattle.pg_commands_words.specs.Pieces.{Piece, Word, apart, begins_with_hyphen, flag, is_name, is_plain, joined, long_name, option_word, positional, positionals_of_end, same_option, takes_value, uses_of, words_of_end, words_of_piece}
-use Rattle.pg_commands_words.specs.Clap.{line_app, option_rule, words_rule}
+use Rattle.pg_commands_words.specs.Clap.{line_app}
 use Rattle.pg_commands_words.specs.declared.names.OptionName.{OptionName}
 use Rattle.pg_commands_words.specs.declared.names.OptionName.TheVariants.{Quantum, Seed, Free, Book, Only, Json}
 use Rattle.pg_commands_words.proofs.Options.{Fresh, not-given}
@@ -196,7 +196,7 @@ flag-passes Json h true e can first = rw (can, first) refl
 flag-passes Json h false e can first = rw (can, first) refl
 
 joined-moves : (o : OptionName) (h : Held) (w : Bool) (value : Word) → takes_value o ≡ true
-    → walked line_rules [] (state h (between w) false) (option_word o ++ codes "=" ++ value) ≡ state (reacted line_rules (built_option o) (value ∷ []) h) idle false
+    → walked line_rules [] (state h (between w) false) (option_word o ++ (codes "=" ++ value)) ≡ state (reacted line_rules (built_option o) (value ∷ []) h) idle false
 unfolding clap_on_literals
 joined-moves Quantum h true value e = refl
 joined-moves Quantum h false value e = refl
@@ -209,7 +209,7 @@ joined-moves Only h w value e = absurd (false≢true e)
 joined-moves Json h w value e = absurd (false≢true e)
 
 joined-passes : (o : OptionName) (h : Held) (w : Bool) (value : Word) → takes_value o ≡ true → CanSettle h → has_option o (rows_at h) ≡ false
-    → turn_passes line_shape [] (state h (between w) false) (option_word o ++ codes "=" ++ value) ≡ true
+    → turn_passes line_shape [] (state h (between w) false) (option_word o ++ (codes "=" ++ value)) ≡ true
 unfolding clap_on_literals
 joined-passes Quantum h true value e can first = rw (can, first) refl
 joined-passes Quantum h false value e can first = rw (can, first) refl
@@ -310,9 +310,9 @@ flag-reach o words start end is_flag first from = λ h w can is.
     (from (reacted line_rules (built_option o) [] h) false (reacted-settles (built_option o) [] h) (ap (with_use o []) is))
 
 joined-reach : (o : OptionName) (value : Word) (words : List Word) (start end : List Row) → takes_value o ≡ true → has_option o start ≡ false
-    → FromEach (with_use o (value ∷ []) start) words end → FromEach start ((option_word o ++ codes "=" ++ value) ∷ words) end
+    → FromEach (with_use o (value ∷ []) start) words end → FromEach start ((option_word o ++ (codes "=" ++ value)) ∷ words) end
 joined-reach o value words start end takes first from = λ h w can is.
-    reaches-more _ _ (option_word o ++ codes "=" ++ value) words end (joined-moves o h w value takes) (joined-passes o h w value takes can (ap (has_option o) is ∙ first))
+    reaches-more _ _ (option_word o ++ (codes "=" ++ value)) words end (joined-moves o h w value takes) (joined-passes o h w value takes can (ap (has_option o) is ∙ first))
     (from (reacted line_rules (built_option o) (value ∷ []) h) false (reacted-settles (built_option o) (value ∷ []) h) (ap (with_use o (value ∷ [])) is))
 
 apart-reach : (o : OptionName) (value : Word) (words : List Word) (start end : List Row) → takes_value o ≡ true → begins_with_hyphen value ≡ false → has_option o start ≡ false
@@ -328,7 +328,7 @@ pieces-reach [] rest start end plain fresh from = from
 pieces-reach (positional word ∷ pieces) rest start end plain fresh from =
     name-reach word _ start end (and-left (is_name word) (list_all is_plain pieces) plain)
     (pieces-reach pieces rest (with_number start word) end (and-right (is_name word) (list_all is_plain pieces) plain)
-    (λ o. (λ h. (fresh o).0 (sym (number-keeps o start word) ∙ h), (fresh o).1)) from)
+    (λ o. ((λ h. (fresh o).0 (sym (number-keeps o start word) ∙ h)), (fresh o).1)) from)
 pieces-reach (flag o ∷ pieces) rest start end plain fresh from =
     flag-reach o _ start end (not-true (takes_value o) (and-left (not (takes_value o)) (list_all is_plain pieces) plain)) (not-given (given start) o [] pieces fresh)
     (pieces-reach pieces rest (with_use o [] start) end (and-right (not (takes_value o)) (list_all is_plain pieces) plain) (behind start o [] [] pieces fresh) from)

@@ -88,7 +88,7 @@ pub record HasSession (given : Given) (words : List Word) (file : Word) (chosen 
   pub has_book : given.book ≡ named
   pub is_named : is_book_name given.book ≡ true
   pub has_only : given.only ≡ only
-  pub only_fits : only_fits given ≡ true
+  pub only_stands : only_fits given ≡ true
   pub has_json : given.json ≡ json
 
 -- the options that are given and the positionals have these values
@@ -112,7 +112,7 @@ pub record IsWritten (words : List Word) (meaning : Meaning) : Type 0 where
   -- before `--`, a word other than `-` that begins with `-` is an option
   pub plain : list_all is_plain line.pieces ≡ true
   -- each option stands there at most once
-  pub once : (o : OptionName) → length (uses_of o line.pieces) ≤ 1
+  pub at_most_once : (o : OptionName) → length (uses_of o line.pieces) ≤ 1
   pub says : Says (given_in line) (positionals_of line) meaning
 
 -- ---- what the program has of these

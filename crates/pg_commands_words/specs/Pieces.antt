@@ -71,7 +71,7 @@ abbrev pub words_of_piece : Piece → List Word
 words_of_piece (positional word) = word ∷ []
 words_of_piece (flag option) = option_word option ∷ []
 words_of_piece (apart option value) = option_word option ∷ value ∷ []
-words_of_piece (joined option value) = (option_word option ++ codes "=" ++ value) ∷ []
+words_of_piece (joined option value) = (option_word option ++ (codes "=" ++ value)) ∷ []
 
 -- a positional, and a value that is a word of its own, doesn't begin with `-`; a positional may be `-`
 abbrev pub is_plain : Piece → Bool

@@ -9,7 +9,7 @@ alone = record {
   line = record { pieces = []; end = None };
   spelled = refl;
   plain = refl;
-  once = λ o. omega arith;
+  at_most_once = λ o. omega arith;
   says = record { allowed = refl; has_values = (refl, record { has_numbers = refl; few = omega arith }) };
 }
 
