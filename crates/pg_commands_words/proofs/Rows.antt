@@ -25,7 +25,7 @@ false≢true e = cc
 -- ---- the rules of a command as it is built
 
 abbrev pub built_option : OptionName → Rule
-built_option o = filled (option_rule o)
+built_option o = filled (option_rule (long_name o) (takes_value o))
 
 abbrev pub built_words : Rule
 built_words = with_index 1 (filled words_rule)
