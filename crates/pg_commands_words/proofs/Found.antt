@@ -8,7 +8,8 @@ use Rattle.clap.proofs.OnLiterals.{clap_on_literals}
 use Rattle.clap.proofs.WalkLemmas.{walk_stopped}
 use Rattle.pg_commands_words.specs.Clap.{program_app}
 use Rattle.pg_commands_words.specs.Pieces.{Line, Word, positionals_of_end, words_of, words_of_end}
-use Rattle.pg_commands_words.specs.Lines.{IsLine, name_word}
+use Rattle.pg_commands_words.specs.Commands.{name_word}
+use Rattle.pg_commands_words.specs.Lines.{IsLine}
 use Rattle.pg_commands_words.specs.declared.names.Name.{Name}
 use Rattle.pg_commands_words.specs.declared.names.Name.TheVariants.{Once, Serve, Book, Show, Conditions, Trial}
 use Rattle.pg_commands_words.proofs.Lines.{both}

@@ -19,10 +19,10 @@ use Rattle.pg_commands_words.specs.declared.values.TheConstants.{DEFAULT_QUANTUM
 use Rattle.pg_commands_words.specs.declared.names.Name.{Name}
 use Rattle.pg_commands_words.specs.declared.names.Name.TheVariants.{Once, Serve, Book, Show, Conditions, Trial}
 use Rattle.pg_commands_words.specs.Clap.{HasNoValues, HasValuesOf, Reads, ReadsNone, SaysNone, SaysOf, given_of_rows, program_app, words_in}
-use Rattle.pg_commands_words.specs.Commands.{HasFileAndNumbers, HasNumbers, HasSession, HasValues, IsWay, IsWithin, IsWritten, Meaning, Says, are_allowed, name_of, once, serve, book, show, conditions, trial}
+use Rattle.pg_commands_words.specs.Commands.{HasFileAndNumbers, HasNumbers, HasSession, HasValues, IsWay, IsWithin, IsWritten, Meaning, Says, are_allowed, name_of, name_word, once, serve, book, show, conditions, trial}
 use Rattle.pg_commands_words.specs.Pieces.{Given, Line, Word, given_in, is_plain, positionals_of, uses_of, words_of}
 use Rattle.pg_commands_words.specs.Values.{chosen_way, number_of, quantum_of, seed_of, trial_of, way_of}
-use Rattle.pg_commands_words.specs.Lines.{IsLine, is_line, name_of_line, name_word, named}
+use Rattle.pg_commands_words.specs.Lines.{IsLine, is_line, name_of_line, named}
 use Rattle.pg_commands_words.proofs.Lines.{line-found, line-passes}
 use Rattle.pg_commands_words.proofs.Rows.{IsFine, given-found, rows_found, words-found}
 use Rattle.pg_commands_words.proofs.Found.{line-rows, line-taken}

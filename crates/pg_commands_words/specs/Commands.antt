@@ -1,10 +1,9 @@
 -- Which command words are, without the program's own name.
-use Rattle.std.specs.Prelude.{◌≡◌, ℕ, ℤ, Bool, true, false, not, ◌&&◌, ◌||◌, ◌≤◌, ◌<◌, ◌^◌, List, [], ◌∷◌, length, map, string_bytes, Option, Some, None, is_some}
+use Rattle.std.specs.Prelude.{◌≡◌, ℕ, ℤ, Bool, true, false, not, ◌&&◌, ◌||◌, ◌≤◌, ◌<◌, ◌^◌, List, [], ◌∷◌, codes, length, map, string_bytes, Option, Some, None, is_some}
 use Rattle.std.specs.List.{list_all}
 use Rattle.std.specs.Option.{option_map}
 use Rattle.pg_num.specs.declared.limits.TheConstants.{NUMBERS_LIMIT, QUANTUM_LIMIT}
 use Rattle.pg_session_trial.specs.declared.line.TheConstants.{TRIAL_LIMIT}
-use Rattle.pg_commands_words.specs.Lines.{name_word}
 use Rattle.pg_commands_words.specs.Pieces.{Given, Line, Word, given_in, is_plain, positionals_of, uses_of, words_of}
 use Rattle.pg_commands_words.specs.Values.{chosen_way, is_book_name, number_of, trial_of}
 use Rattle.pg_commands_words.specs.declared.commands.Command.{Command}
@@ -69,6 +68,15 @@ name_of (book file way) = names.Book
 name_of (show file way numbers) = names.Show
 name_of (conditions file way numbers) = names.Conditions
 name_of (trial number) = names.Trial
+
+-- a command's own word
+abbrev pub name_word : Name → Word
+name_word names.Once = codes "once"
+name_word names.Serve = codes "serve"
+name_word names.Book = codes "book"
+name_word names.Show = codes "show"
+name_word names.Conditions = codes "conditions"
+name_word names.Trial = codes "trial"
 
 -- the words write these numbers, of which there are not too many
 pub record HasNumbers (words : List Word) (numbers : List ℤ) : Type 0 where
