@@ -212,8 +212,8 @@ fresh-more given after used value pieces grows f = λ o. ((λ h. none o (grows o
     none o (inr before) = rest-none (same_option o used) value (uses_of o pieces) ((f o).0 before)
 
 none-yet : (b : Bool) (value : Word) (values : List Word) → (b ≡ true → ⊥) → values ≡ [] → used_or b value values ≡ []
-none-yet true value values no e = absurd (no refl)
-none-yet false value values no e = e
+none-yet true value values never e = absurd (never refl)
+none-yet false value values never e = e
 
 few-yet : (b : Bool) (value : Word) (values : List Word) → (b ≡ true → values ≡ []) → length values ≤ 1 → length (used_or b value values) ≤ 1
 few-yet true value values none few = let e = none refl in rw e (omega arith)

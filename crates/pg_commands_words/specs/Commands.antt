@@ -89,6 +89,12 @@ pub record HasFileAndNumbers (words : List Word) (file : Word) (numbers : List �
   pub has_file : words ≡ file ∷ texts
   pub has_numbers : HasNumbers texts numbers
 
+-- the words are the number of a trial
+pub record HasTrial (words : List Word) (number : ℕ) : Type 0 where
+  pub text : Word
+  pub has_text : words ≡ text ∷ []
+  pub has_number : trial_of text ≡ Some number
+
 -- the options and the file of a session have these values
 pub record HasSession (given : Given) (words : List Word) (file : Word) (chosen : RecordingWay) (named : Option Word) (only json : Bool) : Type 0 where
   pub has_way : chosen_way given ≡ Some chosen
@@ -106,7 +112,7 @@ HasValues given words (serve file way named only json) = HasSession given words 
 HasValues given words (book file way) = (chosen_way given ≡ Some way) × (words ≡ file ∷ [])
 HasValues given words (show file way numbers) = (chosen_way given ≡ Some way) × HasFileAndNumbers words file numbers
 HasValues given words (conditions file way numbers) = (chosen_way given ≡ Some way) × HasFileAndNumbers words file numbers
-HasValues given words (trial number) = (text : Word) × (words ≡ text ∷ []) × (trial_of text ≡ Some number)
+HasValues given words (trial number) = HasTrial words number
 
 -- the options and the positionals are this command
 pub record Says (given : Given) (words : List Word) (meaning : Meaning) : Type 0 where
