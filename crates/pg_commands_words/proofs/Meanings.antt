@@ -19,13 +19,16 @@ use Rattle.pg_commands_words.specs.declared.values.TheConstants.{DEFAULT_QUANTUM
 use Rattle.pg_commands_words.specs.declared.names.Name.{Name}
 use Rattle.pg_commands_words.specs.declared.names.Name.TheVariants.{Once, Serve, Book, Show, Conditions, Trial}
 use Rattle.pg_commands_words.specs.Clap.{HasNoValues, HasValuesOf, Reads, ReadsNone, SaysNone, SaysOf, given_of_rows, program_app, words_in}
-use Rattle.pg_commands_words.specs.Commands.{HasFileAndNumbers, HasNumbers, HasSession, HasTrial, HasValues, IsWay, IsWithin, IsWritten, Meaning, Says, are_allowed, name_of, name_word, once, serve, book, show, conditions, trial}
+use Rattle.pg_commands_words.specs.Commands.{HasFileAndNumbers, HasNumbers, HasSession, HasTrial, HasValues, IsWay, IsWithin, IsWritten, Meaning, Means, NoCommand, Says, are_allowed, is_offered, name_of, name_word, once, serve, book, show, conditions, trial}
 use Rattle.pg_commands_words.specs.Pieces.{Given, Line, Word, given_in, is_plain, positionals_of, uses_of, words_of}
 use Rattle.pg_commands_words.specs.Values.{chosen_way, number_of, quantum_of, seed_of, trial_of, way_of}
 use Rattle.pg_commands_words.specs.Lines.{IsLine, is_line, name_of_line, named}
 use Rattle.pg_commands_words.proofs.Lines.{line-found, line-passes}
 use Rattle.pg_commands_words.proofs.Rows.{IsFine, given-found, rows_found, words-found}
 use Rattle.pg_commands_words.proofs.Found.{line-rows, line-taken}
+
+false≢true : false ≡ true → ⊥
+false≢true e = cc
 
 -- ---- the name and a line
 
@@ -333,6 +336,15 @@ says-none name o ws f meaning h = f meaning (h.0, h.1.has_values)
 
 pub none-allowed : (name : Name) (o : Given) (ws : List Word) → are_allowed name o ≡ false → SaysNone name o ws
 none-allowed name o ws refused meaning h = false≢true (sym refused ∙ ap (λ n. are_allowed n o) (sym h.0) ∙ h.1.allowed)
-  where
-    false≢true : false ≡ true → ⊥
-    false≢true e = cc
+
+-- ---- what the program has of the commands
+
+pub is-command : (words : List Word) (meaning : Meaning) → IsWritten words meaning → is_offered meaning ≡ true → Means words meaning
+is-command words meaning written offered = record { written = written; offered = offered }
+
+pub no-command : (words : List Word) → NothingWritten words → NoCommand words
+no-command words none meaning m = none meaning m.written
+
+pub not-offered : (words : List Word) (meaning : Meaning) → IsWritten words meaning → is_offered meaning ≡ false → NoCommand words
+not-offered words meaning written refused other m =
+    false≢true (sym refused ∙ ap is_offered (one-command words meaning other written m.written) ∙ m.offered)

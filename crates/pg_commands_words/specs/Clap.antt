@@ -22,11 +22,14 @@ words_rule = record (new_rule (codes "words")) { action = Some Append }
 abbrev pub with_option : Text → Bool → App → App
 with_option name takes app = with_rule app (option_rule name takes)
 
+abbrev pub with_words : App → App
+with_words app = with_rule app words_rule
+
 -- the command of this name; each has the same options and takes any words
 abbrev pub line_app : Text → App
 line_app name =
-    with_rule (with_option (codes "json") false (with_option (codes "only") false (with_option (codes "book") true (with_option (codes "free") false
-    (with_option (codes "seed") true (with_option (codes "quantum") true (new_app name))))))) words_rule
+    with_words (with_option (codes "json") false (with_option (codes "only") false (with_option (codes "book") true (with_option (codes "free") false
+    (with_option (codes "seed") true (with_option (codes "quantum") true (new_app name)))))))
 
 abbrev pub program_top : Shape
 program_top = record (new_shape (codes "peregrine")) {

@@ -5,7 +5,7 @@ ghost use Rattle.clap.specs.Simple.{app_of};
 ghost use Rattle.clap.specs.Words.{found_of, rows_of, rule_of, subcommand_of, subcommand_rows_of, takes, kind_of};
 ghost use Rattle.clap.specs.declared.builder.command.Command.TheViews.{out-Command};
 ghost use Rattle.clap.specs.declared.error.kind.ErrorKind.TheVariants.{OutOfMemory};
-ghost use Rattle.pg_commands_words.specs.Clap.{given_of, given_of_rows, is_set, line_app, option_rule, program_app, program_top, with_line, with_option};
+ghost use Rattle.pg_commands_words.specs.Clap.{given_of, given_of_rows, is_set, line_app, option_rule, program_app, program_top, with_line, with_option, with_words};
 
 use clap::error::ErrorKind;
 use clap::{Arg, ArgAction, ArgMatches, Command, Error};
@@ -76,6 +76,17 @@ fn with_option<'a>(
     Ok(command)
 }
 
+// A command that takes any words.
+fn with_words<'a>(alloc: Global, command: Command<'a>) -> Result<Command<'a>, AllocError>
+    requires local { (out-Command command).has_globals ≡ false }
+    ensures app { IfOk result (λ c. app_of c ≡ with_words (app_of command.entry)) }
+    ensures local { IfOk result (λ c. (out-Command c).has_globals ≡ false) }
+{
+    let words = Arg::new(alloc, "words").action(ArgAction::Append);
+    let command = command.arg(words)?;
+    Ok(command)
+}
+
 // The command of a name, with the options and any words.
 fn line_command<'a>(alloc: Global, name: &'a str) -> Result<Command<'a>, AllocError>
     ensures app { IfOk result (λ c. app_of c ≡ line_app name.entry.now) }
@@ -88,8 +99,7 @@ fn line_command<'a>(alloc: Global, name: &'a str) -> Result<Command<'a>, AllocEr
     let command = with_option(alloc, command, "book", true)?;
     let command = with_option(alloc, command, "only", false)?;
     let command = with_option(alloc, command, "json", false)?;
-    let words = Arg::new(alloc, "words").action(ArgAction::Append);
-    let command = command.arg(words)?;
+    let command = with_words(alloc, command)?;
     Ok(command)
 }
 
