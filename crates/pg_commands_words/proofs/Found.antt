@@ -1,6 +1,6 @@
 -- What the parser finds in a line: it takes it, and has the texts of its options and its positionals.
-use Rattle.std.proofs.Common.{◌≡◌, ◌∙◌, ◌&&◌, Bool, cond, true, false, refl, sym, ap, subst, ◌≤◌, List, [], ◌∷◌, ◌++◌, codes, length, Some, is_some}
-use Rattle.std.specs.List.{fold, list_all}
+use Rattle.std.proofs.Common.{◌≡◌, ◌∙◌, ◌&&◌, true, false, refl, sym, ap, subst, List, [], ◌∷◌, ◌++◌, codes, Some, is_some}
+use Rattle.std.specs.List.{fold}
 use Rattle.clap.specs.Walk.{Names, Row, Text, Walk, idle, nothing_held, settled, walk, walk_from, walked, with_default}
 use Rattle.clap.specs.Simple.{Shape, built, entered, subcommand_of}
 use Rattle.clap.specs.Takes.{entered_passes, level_passes, takes, turn_passes, walk_passes, settle_passes}

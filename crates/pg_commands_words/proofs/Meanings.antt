@@ -1,12 +1,11 @@
 -- What the parser's matches of a line say is what the line is.
 use Rattle.std.proofs.Common.{◌≡◌, ◌≤◌, ◌<◌, ◌^◌, ◌-◌, arith, ◌∙◌, ◌&&◌, ℕ, ℤ, Bool, cond, true, false, refl, sym, ap, subst, List, [], ◌∷◌, map, codes, Option}
 use Rattle.std.proofs.Common.{Some, None, IfSome, IfNone}
-use Rattle.std.specs.List.{list_all}
 use Rattle.std.specs.Option.{option_map}
 use Rattle.std.specs.Str.{bytes_eq}
 use Rattle.std.proofs.lemmas.Slice.Eq.{bytes_eq-Decides}
 use Rattle.std.proofs.lemmas.Bool.{leb-true}
-use Rattle.std.specs.Prelude.{length, nat_le}
+use Rattle.std.specs.Prelude.{nat_le}
 use Rattle.clap.specs.Simple.{subcommand_of}
 use Rattle.clap.specs.Takes.{takes}
 use Rattle.clap.specs.Walk.{Row}
@@ -20,7 +19,7 @@ use Rattle.pg_commands_words.specs.declared.names.Name.{Name}
 use Rattle.pg_commands_words.specs.declared.names.Name.TheVariants.{Once, Serve, Book, Show, Conditions, Trial}
 use Rattle.pg_commands_words.specs.Clap.{HasNoValues, HasValuesOf, Reads, ReadsNone, SaysNone, SaysOf, given_of_rows, program_app, words_in}
 use Rattle.pg_commands_words.specs.Commands.{HasFileAndNumbers, HasNumbers, HasSession, HasTrial, HasValues, IsWay, IsWithin, IsWritten, Meaning, Means, NoCommand, Says, are_allowed, is_offered, name_of, name_word, once, serve, book, show, conditions, trial}
-use Rattle.pg_commands_words.specs.Pieces.{Given, Line, Word, given_in, is_plain, positionals_of, uses_of, words_of}
+use Rattle.pg_commands_words.specs.Pieces.{Given, Word, given_in, positionals_of, words_of}
 use Rattle.pg_commands_words.specs.Values.{chosen_way, number_of, quantum_of, seed_of, trial_of, way_of}
 use Rattle.pg_commands_words.specs.Lines.{IsLine, is_line, name_of_line, named}
 use Rattle.pg_commands_words.proofs.Lines.{line-found, line-passes}

@@ -1,10 +1,9 @@
 -- The options one by one, and which of them a list of pieces may still have.
-use Rattle.std.proofs.Common.{◌≡◌, ◌⊎◌, inl, inr, ◌≤◌, arith, ℕ, zero, suc, Bool, cond, true, false, refl, sym, ap, subst, List, [], ◌∷◌, length, codes, Option, Some, None, ◌||◌}
+use Rattle.std.proofs.Common.{◌≡◌, ◌⊎◌, inl, inr, ◌≤◌, arith, ℕ, zero, suc, Bool, cond, true, false, refl, sym, ap, subst, List, [], ◌∷◌, length, codes, Some, None, ◌||◌}
 use Rattle.std.specs.List.{cons_option}
-use Rattle.std.specs.Prelude.{◌==◌}
 use Rattle.std.specs.Str.{bytes_eq}
 use Rattle.std.proofs.lemmas.Bool.{eqb-true}
-use Rattle.pg_commands_words.specs.Pieces.{Piece, Word, long_name, place_of, same_option, takes_value, use_of, uses_of}
+use Rattle.pg_commands_words.specs.Pieces.{Piece, Word, long_name, place_of, same_option, use_of, uses_of}
 use Rattle.pg_commands_words.specs.Lines.{has_seen, nothing_seen, seen_more}
 use Rattle.pg_commands_words.specs.declared.names.OptionName.{OptionName}
 use Rattle.pg_commands_words.specs.declared.names.OptionName.TheVariants.{Quantum, Seed, Free, Book, Only, Json}

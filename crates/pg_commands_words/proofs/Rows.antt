@@ -1,6 +1,6 @@
 -- What the rows of a line's uses say: the options that are given and the positionals, in order.
-use Rattle.std.proofs.Common.{◌≡◌, ◌∙◌, ◌||◌, ◌⊎◌, inl, inr, Bool, cond, true, false, not, ◌&&◌, refl, sym, ap, subst, ◌≤◌, List, [], ◌∷◌, ◌++◌, map, codes, length, Option, Some, None, is_some, append_assoc, append-nil}
-use Rattle.std.specs.List.{cons_option, filter_map, find, fold, list_all, list_any}
+use Rattle.std.proofs.Common.{◌≡◌, ◌∙◌, ◌||◌, ◌⊎◌, inl, inr, Bool, cond, true, false, not, ◌&&◌, refl, sym, ap, ◌≤◌, List, [], ◌∷◌, ◌++◌, map, codes, length, Option, Some, None, is_some, append_assoc, append-nil}
+use Rattle.std.specs.List.{cons_option, filter_map, find, fold, list_all}
 use Rattle.std.specs.Option.{option_map, option_or, unwrap_or}
 use Rattle.std.specs.Prelude.{option_and_then, slice_get}
 use Rattle.std.specs.Str.{bytes_eq}
@@ -8,8 +8,6 @@ use Rattle.std.proofs.lemmas.Slice.Eq.{bytes_eq-Decides}
 use Rattle.std.proofs.lemmas.List.Folds.{find-append}
 use Rattle.clap.specs.Simple.{filled, with_index}
 use Rattle.clap.specs.Walk.{Row, Rule, at_row, has_row, more_values, reading_by, stronger, used, with_default, without}
-use Rattle.clap.specs.declared.builder.action.ArgAction.TheVariants.{Append, Set, SetTrue}
-use Rattle.clap.specs.declared.builder.value_parser.ValueParser.TheVariants as vp
 use Rattle.clap.specs.declared.parser.matches.ValueSource.{ValueSource}
 use Rattle.clap.specs.declared.parser.matches.ValueSource.TheVariants.{CommandLine, DefaultValue}
 use Rattle.pg_commands_words.specs.Clap.{given_of_rows, is_set, option_rule, text_in, words_in, words_rule}

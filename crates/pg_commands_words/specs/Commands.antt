@@ -1,5 +1,5 @@
 -- Which command words are, without the program's own name.
-use Rattle.std.specs.Prelude.{◌≡◌, ℕ, ℤ, Bool, true, false, not, ◌&&◌, ◌||◌, ◌≤◌, ◌<◌, ◌^◌, List, [], ◌∷◌, codes, length, map, string_bytes, Option, Some, None, is_some}
+use Rattle.std.specs.Prelude.{◌≡◌, ℕ, ℤ, Bool, true, false, not, ◌&&◌, ◌||◌, ◌≤◌, ◌<◌, ◌^◌, List, [], ◌∷◌, codes, length, map, string_bytes, Option, Some, is_some}
 use Rattle.std.specs.List.{list_all}
 use Rattle.std.specs.Option.{option_map}
 use Rattle.pg_num.specs.declared.limits.TheConstants.{NUMBERS_LIMIT, QUANTUM_LIMIT}
