@@ -1,3 +1,4 @@
+pub mod Options
 pub mod Walks
 pub mod Rows
 pub mod Lines

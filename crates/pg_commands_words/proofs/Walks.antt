@@ -1,44 +1,30 @@
 -- The parser's walk over the words of a line, as far as each of them.
-use Rattle.std.proofs.Common.{◌≡◌, ◌∙◌, ◌||◌, ◌⊎◌, ◌≤◌, inl, inr, Bool, cond, true, false, not, refl, sym, ap, subst, List, [], ◌∷◌, ◌++◌, codes, length, Option, Some, None}
+use Rattle.std.proofs.Common.{◌≡◌, ◌∙◌, ◌&&◌, ◌||◌, ◌⊎◌, inl, inr, Bool, cond, true, false, not, refl, sym, ap, subst, List, [], ◌∷◌, ◌++◌, codes, Option, Some, None}
 use Rattle.std.specs.List.{fold, list_all}
 use Rattle.std.specs.Prelude.{flat_map}
-use Rattle.clap.specs.Walk.{Row, Rule, Text, Waiting, Walk, has_row, idle, more_values, option, settled, used, walked}
+use Rattle.std.specs.Str.{bytes_eq}
+use Rattle.std.proofs.lemmas.Slice.Eq.{bytes_eq-Decides}
+use Rattle.clap.specs.Walk.{Held, Row, Rule, Waiting, Walk, has_row, idle, is_pending, option, positional_held, pushed, reacted, settled, used, walked}
 use Rattle.clap.specs.Walk as clap
 use Rattle.clap.specs.Takes.{settle_passes, turn_passes, walk_passes}
 use Rattle.clap.specs.Simple.{Shape}
-use Rattle.clap.specs.declared.builder.action.ArgAction.TheVariants.{Set}
-use Rattle.clap.specs.declared.parser.matches.ValueSource.TheVariants.{CommandLine}
-use Rattle.clap.specs.declared.builder.value_parser.ValueParser.TheVariants as vp
 use Rattle.clap.proofs.OnLiterals.{clap_on_literals}
-use Rattle.std.specs.Str.{bytes_eq}
-use Rattle.std.proofs.lemmas.Slice.Eq.{bytes_eq-Decides}
-use Rattle.pg_commands_words.specs.Pieces.{Piece, Word, begins_with_hyphen, is_name, is_plain, positional, positionals_of_end, quantum_apart, quantum_joined, words_of_end, words_of_piece}
-use Rattle.pg_commands_words.specs.Lines.{is_followed}
-use Rattle.pg_commands_words.proofs.Lines.{and-left, and-right, is-none, no-more, quanta}
-use Rattle.pg_commands_words.specs.Clap.{line_app, quantum_rule, words_rule}
+use Rattle.pg_commands_words.specs.Pieces.{Piece, Word, apart, begins_with_hyphen, flag, is_name, is_plain, joined, long_name, option_word, positional, positionals_of_end, takes_value, words_of_end, words_of_piece}
+use Rattle.pg_commands_words.specs.Clap.{line_app}
+use Rattle.pg_commands_words.specs.declared.names.OptionName.{OptionName}
+use Rattle.pg_commands_words.specs.declared.names.OptionName.TheVariants.{Quantum, Seed, Free, Book, Only, Json}
+use Rattle.pg_commands_words.proofs.Options.{Fresh, not-given}
+use Rattle.pg_commands_words.proofs.Lines.{and-left, and-right, not-true}
+use Rattle.pg_commands_words.proofs.Rows.{behind, built_option, built_words, given, has_option, line_rules, number-keeps, with_number, with_piece, with_use}
+
+false≢true : false ≡ true → ⊥
+false≢true e = cc
 
 -- ---- a command as it is built; the name plays no part in the walk
 
-abbrev pub built_quantum : Rule
-built_quantum = record quantum_rule {
-  action = Some Set;
-  parser = Some vp.String;
-  range = Some (record { start_inclusive = 1; end_inclusive = 1 });
-}
-
-abbrev pub built_numbers : Rule
-built_numbers = record words_rule {
-  index = Some 1;
-  parser = Some vp.String;
-  range = Some (record { start_inclusive = 1; end_inclusive = 1 });
-}
-
-abbrev pub once_rules : List Rule
-once_rules = built_quantum ∷ built_numbers ∷ []
-
-abbrev pub once_shape : Shape
-once_shape = record (line_app (codes "once")).top {
-  rules = once_rules;
+abbrev pub line_shape : Shape
+line_shape = record (line_app (codes "once")).top {
+  rules = line_rules;
   no_binary_name = true;
   disable_help_flag = true;
   disable_help_subcommand = true;
@@ -48,136 +34,80 @@ once_shape = record (line_app (codes "once")).top {
 
 -- ---- where the walk stands between two words
 
-pub data Last : Type 0 where
-  begun : Last
-  valued : Word → Last
-  numbered : Word → Last
+-- behind a positional, or behind another word
+abbrev pub between : Bool → Waiting
+between true = clap.positional
+between false = idle
 
-abbrev pub pending_after : Last → Option (Text × List Text)
-pending_after begun = None
-pending_after (valued value) = Some (codes "quantum", value ∷ [])
-pending_after (numbered word) = Some (codes "words", word ∷ [])
-
-abbrev pub waiting_after : Last → Waiting
-waiting_after (numbered word) = clap.positional
-waiting_after _ = idle
-
-abbrev pub with_number : List Row → Word → List Row
-with_number rows word = used built_numbers (word ∷ []) rows
-
-abbrev pub with_quantum : List Row → Word → List Row
-with_quantum rows value = used built_quantum (value ∷ []) rows
+abbrev pub state : Held → Waiting → Bool → Walk
+state held waiting trailing = record { held = held; waiting = waiting; position = 1; is_trailing = trailing; stopped = None }
 
 -- the rows with the last use among them
-abbrev pub with_last : Last → List Row → List Row
-with_last begun rows = rows
-with_last (valued value) rows = with_quantum rows value
-with_last (numbered word) rows = with_number rows word
+abbrev pub rows_at : Held → List Row
+rows_at h = (settled line_rules h).rows
 
-abbrev pub state : List Row → Last → Bool → Walk
-state rows last trailing = record {
-  held = record { rows = rows; pending = pending_after last; skip = 0 };
-  waiting = waiting_after last;
-  position = 1;
-  is_trailing = trailing;
-  stopped = None;
-}
-
-abbrev pub has_quantum_row : List Row → Bool
-has_quantum_row rows = has_row (codes "quantum") rows
-
-abbrev pub CanSettle : Last → List Row → Type 0
-CanSettle (valued value) rows = has_quantum_row rows ≡ false
-CanSettle _ rows = Unit
+abbrev pub CanSettle : Held → Type 0
+CanSettle h = settle_passes line_rules false h ≡ true
 
 -- the words pass from here, and leave these rows
 pub record Reaches (w : Walk) (words : List Word) (end : List Row) : Type 0 where
-  pub passes : walk_passes once_shape [] w words ≡ true
-  pub settles : settle_passes once_rules false (fold (walked once_rules []) w words).held ≡ true
-  pub rows : (settled once_rules (fold (walked once_rules []) w words).held).rows ≡ end
+  pub passes : walk_passes line_shape [] w words ≡ true
+  pub settles : settle_passes line_rules false (fold (walked line_rules []) w words).held ≡ true
+  pub rows : (settled line_rules (fold (walked line_rules []) w words).held).rows ≡ end
 
-pub reaches-more : (w after : Walk) (word : Word) (words : List Word) (end : List Row) → walked once_rules [] w word ≡ after
-    → turn_passes once_shape [] w word ≡ true → Reaches after words end → Reaches w (word ∷ words) end
+pub reaches-more : (w after : Walk) (word : Word) (words : List Word) (end : List Row) → walked line_rules [] w word ≡ after
+    → turn_passes line_shape [] w word ≡ true → Reaches after words end → Reaches w (word ∷ words) end
 unfolding walk_passes
 reaches-more w after word words end moves turn r = record {
   passes = rw (turn, moves) r.passes;
-  settles = subst (λ x. settle_passes once_rules false (fold (walked once_rules []) x words).held ≡ true) (sym moves) r.settles;
-  rows = subst (λ x. (settled once_rules (fold (walked once_rules []) x words).held).rows ≡ end) (sym moves) r.rows;
+  settles = subst (λ x. settle_passes line_rules false (fold (walked line_rules []) x words).held ≡ true) (sym moves) r.settles;
+  rows = subst (λ x. (settled line_rules (fold (walked line_rules []) x words).held).rows ≡ end) (sym moves) r.rows;
 }
 
-pub reaches-end : (last : Last) (rows : List Row) (trailing : Bool) → CanSettle last rows → Reaches (state rows last trailing) [] (with_last last rows)
+pub reaches-end : (h : Held) (w : Waiting) (trailing : Bool) → CanSettle h → Reaches (state h w trailing) [] (rows_at h)
 unfolding clap_on_literals
-reaches-end begun rows trailing can = record { passes = refl; settles = refl; rows = refl }
-reaches-end (valued value) rows trailing can = record { passes = refl; settles = rw can refl; rows = refl }
-reaches-end (numbered word) rows trailing can = record { passes = refl; settles = refl; rows = refl }
+reaches-end h w trailing can = record { passes = refl; settles = can; rows = refl }
 
 -- ---- a positional
 
-plain-moves : (last : Last) (rows : List Row) (word : Word) → begins_with_hyphen word ≡ false
-    → walked once_rules [] (state rows last false) word ≡ state (with_last last rows) (numbered word) false
+-- what is held behind a positional
+abbrev pub numbered : Held → Word → Held
+numbered h word = record (settled line_rules h) { pending = Some (codes "words", word ∷ []) }
+
+no-several : (b : Bool) → (b && false) ≡ false
+no-several true = refl
+no-several false = refl
+
+goes-positional : (h : Held) (word : Word) → positional_held line_rules built_words word h ≡ numbered h word
+goes-positional h word = ap (λ b. pushed (codes "words") word (cond b h (settled line_rules h))) (no-several (is_pending built_words h.pending))
+
+settles-or : (b s : Bool) → s ≡ true → ((b && false) || s) ≡ true
+settles-or true s e = e
+settles-or false s e = e
+
+plain-moves : (h : Held) (w : Bool) (word : Word) → begins_with_hyphen word ≡ false → walked line_rules [] (state h (between w) false) word ≡ state (numbered h word) clap.positional false
 unfolding clap_on_literals
-plain-moves begun rows [] plain = refl
-plain-moves begun rows (x ∷ xs) plain = rw plain (rw plain refl)
-plain-moves (valued value) rows [] plain = refl
-plain-moves (valued value) rows (x ∷ xs) plain = rw plain (rw plain refl)
-plain-moves (numbered word) rows [] plain = refl
-plain-moves (numbered word) rows (x ∷ xs) plain = rw plain (rw plain refl)
+plain-moves h true [] plain = ap (λ k. state k clap.positional false) (goes-positional h [])
+plain-moves h false [] plain = ap (λ k. state k clap.positional false) (goes-positional h [])
+plain-moves h true (x ∷ xs) plain = rw plain (rw plain (ap (λ k. state k clap.positional false) (goes-positional h (x ∷ xs))))
+plain-moves h false (x ∷ xs) plain = rw plain (rw plain (ap (λ k. state k clap.positional false) (goes-positional h (x ∷ xs))))
 
-plain-passes : (last : Last) (rows : List Row) (word : Word) → begins_with_hyphen word ≡ false → CanSettle last rows
-    → turn_passes once_shape [] (state rows last false) word ≡ true
+plain-passes : (h : Held) (w : Bool) (word : Word) → begins_with_hyphen word ≡ false → CanSettle h → turn_passes line_shape [] (state h (between w) false) word ≡ true
 unfolding clap_on_literals
-plain-passes begun rows [] plain can = refl
-plain-passes begun rows (x ∷ xs) plain can = rw plain (rw plain refl)
-plain-passes (valued value) rows [] plain can = rw can refl
-plain-passes (valued value) rows (x ∷ xs) plain can = rw plain (rw plain (rw can refl))
-plain-passes (numbered word) rows [] plain can = refl
-plain-passes (numbered word) rows (x ∷ xs) plain can = rw plain (rw plain refl)
+plain-passes h true [] plain can = settles-or (is_pending built_words h.pending) _ can
+plain-passes h false [] plain can = settles-or (is_pending built_words h.pending) _ can
+plain-passes h true (x ∷ xs) plain can = rw plain (rw plain (settles-or (is_pending built_words h.pending) _ can))
+plain-passes h false (x ∷ xs) plain can = rw plain (rw plain (settles-or (is_pending built_words h.pending) _ can))
 
-trailing-moves : (last : Last) (rows : List Row) (word : Word)
-    → walked once_rules [] (state rows last true) word ≡ state (with_last last rows) (numbered word) true
+hyphen-moves : (h : Held) (w : Bool) → walked line_rules [] (state h (between w) false) (codes "-") ≡ state (numbered h (codes "-")) clap.positional false
 unfolding clap_on_literals
-trailing-moves begun rows word = refl
-trailing-moves (valued value) rows word = refl
-trailing-moves (numbered _) rows word = refl
+hyphen-moves h true = ap (λ k. state k clap.positional false) (goes-positional h (codes "-"))
+hyphen-moves h false = ap (λ k. state k clap.positional false) (goes-positional h (codes "-"))
 
-trailing-passes : (last : Last) (rows : List Row) (word : Word) → CanSettle last rows → turn_passes once_shape [] (state rows last true) word ≡ true
+hyphen-passes : (h : Held) (w : Bool) → CanSettle h → turn_passes line_shape [] (state h (between w) false) (codes "-") ≡ true
 unfolding clap_on_literals
-trailing-passes begun rows word can = refl
-trailing-passes (valued value) rows word can = rw can refl
-trailing-passes (numbered _) rows word can = refl
-
--- ---- `--` and the words after it
-
-end-moves : (last : Last) (rows : List Row) → walked once_rules [] (state rows last false) (codes "--") ≡ state rows last true
-unfolding clap_on_literals
-end-moves begun rows = refl
-end-moves (valued value) rows = refl
-end-moves (numbered word) rows = refl
-
-end-passes : (last : Last) (rows : List Row) → turn_passes once_shape [] (state rows last false) (codes "--") ≡ true
-unfolding clap_on_literals
-end-passes begun rows = refl
-end-passes (valued value) rows = refl
-end-passes (numbered word) rows = refl
-
-trailing-reach : (words : List Word) (last : Last) (rows : List Row) → CanSettle last rows
-    → Reaches (state rows last true) words (fold with_number (with_last last rows) words)
-trailing-reach [] last rows can = reaches-end last rows true can
-trailing-reach (word ∷ words) last rows can =
-    reaches-more _ _ word words _ (trailing-moves last rows word) (trailing-passes last rows word can)
-    (trailing-reach words (numbered word) (with_last last rows) tt)
-
-pub end-reach : (end : Option (List Word)) (last : Last) (rows : List Row) → CanSettle last rows
-    → Reaches (state rows last false) (words_of_end end) (fold with_number (with_last last rows) (positionals_of_end end))
-end-reach None last rows can = reaches-end last rows false can
-end-reach (Some words) last rows can =
-    reaches-more _ _ (codes "--") words _ (end-moves last rows) (end-passes last rows) (trailing-reach words last rows can)
-
--- ---- words before `--`
-
--- from each state that these words lead to, the words after them reach their rows
-abbrev pub FromEach : List Row → List Word → List Row → Type 0
-FromEach start words end = (last : Last) (rows : List Row) → CanSettle last rows → with_last last rows ≡ start → Reaches (state rows last false) words end
+hyphen-passes h true can = settles-or (is_pending built_words h.pending) _ can
+hyphen-passes h false can = settles-or (is_pending built_words h.pending) _ can
 
 -- a name doesn't begin with `-`, or is `-`
 name-cases : (word : Word) → is_name word ≡ true → (begins_with_hyphen word ≡ false) ⊎ (word ≡ codes "-")
@@ -187,137 +117,227 @@ name-cases word e = by (begins_with_hyphen word) refl e
     by false h e = inl h
     by true h e = inr ((bytes_eq-Decides word (codes "-")).0 e)
 
-hyphen-moves : (last : Last) (rows : List Row) → walked once_rules [] (state rows last false) (codes "-") ≡ state (with_last last rows) (numbered (codes "-")) false
+name-moves : (h : Held) (w : Bool) (word : Word) → (begins_with_hyphen word ≡ false) ⊎ (word ≡ codes "-")
+    → walked line_rules [] (state h (between w) false) word ≡ state (numbered h word) clap.positional false
+name-moves h w word (inl plain) = plain-moves h w word plain
+name-moves h w word (inr is) = subst (λ x. walked line_rules [] (state h (between w) false) x ≡ state (numbered h x) clap.positional false) (sym is) (hyphen-moves h w)
+
+name-passes : (h : Held) (w : Bool) (word : Word) → (begins_with_hyphen word ≡ false) ⊎ (word ≡ codes "-") → CanSettle h
+    → turn_passes line_shape [] (state h (between w) false) word ≡ true
+name-passes h w word (inl plain) can = plain-passes h w word plain can
+name-passes h w word (inr is) can = subst (λ x. turn_passes line_shape [] (state h (between w) false) x ≡ true) (sym is) (hyphen-passes h w can)
+
+numbered-settles : (h : Held) (word : Word) → CanSettle (numbered h word)
 unfolding clap_on_literals
-hyphen-moves begun rows = refl
-hyphen-moves (valued value) rows = refl
-hyphen-moves (numbered word) rows = refl
+numbered-settles h word = refl
 
-hyphen-passes : (last : Last) (rows : List Row) → CanSettle last rows → turn_passes once_shape [] (state rows last false) (codes "-") ≡ true
+numbered-rows : (h : Held) (word : Word) → rows_at (numbered h word) ≡ with_number (rows_at h) word
+numbered-rows h word = refl
+
+-- ---- `--` and the words after it
+
+trailing-moves : (h : Held) (w : Waiting) (word : Word) → walked line_rules [] (state h w true) word ≡ state (numbered h word) clap.positional true
 unfolding clap_on_literals
-hyphen-passes begun rows can = refl
-hyphen-passes (valued value) rows can = rw can refl
-hyphen-passes (numbered word) rows can = refl
+trailing-moves h w word = ap (λ k. state k clap.positional true) (goes-positional h word)
 
-name-moves : (last : Last) (rows : List Row) (word : Word) → (begins_with_hyphen word ≡ false) ⊎ (word ≡ codes "-")
-    → walked once_rules [] (state rows last false) word ≡ state (with_last last rows) (numbered word) false
-name-moves last rows word (inl plain) = plain-moves last rows word plain
-name-moves last rows word (inr is) =
-    subst (λ w. walked once_rules [] (state rows last false) w ≡ state (with_last last rows) (numbered w) false) (sym is) (hyphen-moves last rows)
-
-name-passes : (last : Last) (rows : List Row) (word : Word) → (begins_with_hyphen word ≡ false) ⊎ (word ≡ codes "-") → CanSettle last rows
-    → turn_passes once_shape [] (state rows last false) word ≡ true
-name-passes last rows word (inl plain) can = plain-passes last rows word plain can
-name-passes last rows word (inr is) can = subst (λ w. turn_passes once_shape [] (state rows last false) w ≡ true) (sym is) (hyphen-passes last rows can)
-
--- ---- the option
-
-joined-moves : (last : Last) (rows : List Row) (value : Word)
-    → walked once_rules [] (state rows last false) (codes "--quantum=" ++ value) ≡ state (with_quantum (with_last last rows) value) begun false
+trailing-passes : (h : Held) (w : Waiting) (word : Word) → CanSettle h → turn_passes line_shape [] (state h w true) word ≡ true
 unfolding clap_on_literals
-joined-moves begun rows value = refl
-joined-moves (valued _) rows value = refl
-joined-moves (numbered word) rows value = refl
+trailing-passes h w word can = settles-or (is_pending built_words h.pending) _ can
 
-joined-passes : (last : Last) (rows : List Row) (value : Word) → CanSettle last rows → has_quantum_row (with_last last rows) ≡ false
-    → turn_passes once_shape [] (state rows last false) (codes "--quantum=" ++ value) ≡ true
+end-moves : (h : Held) (w : Bool) → walked line_rules [] (state h (between w) false) (codes "--") ≡ state h (between w) true
 unfolding clap_on_literals
-joined-passes begun rows value can first = rw first refl
-joined-passes (valued _) rows value can first = rw (can, first) refl
-joined-passes (numbered word) rows value can first = rw first refl
+end-moves h true = refl
+end-moves h false = refl
 
--- between the option and its value
-abbrev pub waits : List Row → Walk
-waits rows = record {
-  held = record { rows = rows; pending = Some (codes "quantum", []); skip = 0 };
-  waiting = option (codes "quantum");
-  position = 1;
-  is_trailing = false;
-  stopped = None;
-}
-
-apart-moves : (last : Last) (rows : List Row) → walked once_rules [] (state rows last false) (codes "--quantum") ≡ waits (with_last last rows)
+end-passes : (h : Held) (w : Bool) → turn_passes line_shape [] (state h (between w) false) (codes "--") ≡ true
 unfolding clap_on_literals
-apart-moves begun rows = refl
-apart-moves (valued _) rows = refl
-apart-moves (numbered word) rows = refl
+end-passes h true = refl
+end-passes h false = refl
 
-apart-passes : (last : Last) (rows : List Row) → CanSettle last rows → turn_passes once_shape [] (state rows last false) (codes "--quantum") ≡ true
+trailing-reach : (words : List Word) (h : Held) (w : Waiting) → CanSettle h → Reaches (state h w true) words (fold with_number (rows_at h) words)
+trailing-reach [] h w can = reaches-end h w true can
+trailing-reach (word ∷ words) h w can =
+    reaches-more _ _ word words _ (trailing-moves h w word) (trailing-passes h w word can)
+    (subst (λ rows. Reaches (state (numbered h word) clap.positional true) words (fold with_number rows words)) (numbered-rows h word)
+    (trailing-reach words (numbered h word) clap.positional (numbered-settles h word)))
+
+pub end-reach : (end : Option (List Word)) (h : Held) (w : Bool) → CanSettle h
+    → Reaches (state h (between w) false) (words_of_end end) (fold with_number (rows_at h) (positionals_of_end end))
+end-reach None h w can = reaches-end h (between w) false can
+end-reach (Some words) h w can =
+    reaches-more _ _ (codes "--") words _ (end-moves h w) (end-passes h w) (trailing-reach words h (between w) can)
+
+-- ---- options
+
+flag-moves : (o : OptionName) (h : Held) (w : Bool) → takes_value o ≡ false
+    → walked line_rules [] (state h (between w) false) (option_word o) ≡ state (reacted line_rules (built_option o) [] h) idle false
 unfolding clap_on_literals
-apart-passes begun rows can = refl
-apart-passes (valued _) rows can = rw can refl
-apart-passes (numbered word) rows can = refl
+flag-moves Quantum h w e = absurd (false≢true (sym e))
+flag-moves Seed h w e = absurd (false≢true (sym e))
+flag-moves Free h true e = refl
+flag-moves Free h false e = refl
+flag-moves Book h w e = absurd (false≢true (sym e))
+flag-moves Only h true e = refl
+flag-moves Only h false e = refl
+flag-moves Json h true e = refl
+flag-moves Json h false e = refl
 
-value-moves : (rows : List Row) (value : Word) → begins_with_hyphen value ≡ false → walked once_rules [] (waits rows) value ≡ state rows (valued value) false
+flag-passes : (o : OptionName) (h : Held) (w : Bool) → takes_value o ≡ false → CanSettle h → has_option o (rows_at h) ≡ false
+    → turn_passes line_shape [] (state h (between w) false) (option_word o) ≡ true
 unfolding clap_on_literals
-value-moves rows [] plain = refl
-value-moves rows (x ∷ xs) plain = rw plain (rw plain refl)
+flag-passes Quantum h w e can first = absurd (false≢true (sym e))
+flag-passes Seed h w e can first = absurd (false≢true (sym e))
+flag-passes Free h true e can first = rw (can, first) refl
+flag-passes Free h false e can first = rw (can, first) refl
+flag-passes Book h w e can first = absurd (false≢true (sym e))
+flag-passes Only h true e can first = rw (can, first) refl
+flag-passes Only h false e can first = rw (can, first) refl
+flag-passes Json h true e can first = rw (can, first) refl
+flag-passes Json h false e can first = rw (can, first) refl
 
-value-passes : (rows : List Row) (value : Word) → begins_with_hyphen value ≡ false → turn_passes once_shape [] (waits rows) value ≡ true
+joined-moves : (o : OptionName) (h : Held) (w : Bool) (value : Word) → takes_value o ≡ true
+    → walked line_rules [] (state h (between w) false) (option_word o ++ (codes "=" ++ value)) ≡ state (reacted line_rules (built_option o) (value ∷ []) h) idle false
 unfolding clap_on_literals
-value-passes rows [] plain = refl
-value-passes rows (x ∷ xs) plain = rw plain (rw plain refl)
+joined-moves Quantum h true value e = refl
+joined-moves Quantum h false value e = refl
+joined-moves Seed h true value e = refl
+joined-moves Seed h false value e = refl
+joined-moves Free h w value e = absurd (false≢true e)
+joined-moves Book h true value e = refl
+joined-moves Book h false value e = refl
+joined-moves Only h w value e = absurd (false≢true e)
+joined-moves Json h w value e = absurd (false≢true e)
 
-not-true : (b : Bool) → not b ≡ true → b ≡ false
-not-true true e = sym e
-not-true false e = refl
+joined-passes : (o : OptionName) (h : Held) (w : Bool) (value : Word) → takes_value o ≡ true → CanSettle h → has_option o (rows_at h) ≡ false
+    → turn_passes line_shape [] (state h (between w) false) (option_word o ++ (codes "=" ++ value)) ≡ true
+unfolding clap_on_literals
+joined-passes Quantum h true value e can first = rw (can, first) refl
+joined-passes Quantum h false value e can first = rw (can, first) refl
+joined-passes Seed h true value e can first = rw (can, first) refl
+joined-passes Seed h false value e can first = rw (can, first) refl
+joined-passes Free h w value e can first = absurd (false≢true e)
+joined-passes Book h true value e can first = rw (can, first) refl
+joined-passes Book h false value e can first = rw (can, first) refl
+joined-passes Only h w value e can first = absurd (false≢true e)
+joined-passes Json h w value e can first = absurd (false≢true e)
+
+reacted-settles : (a : Rule) (values : List Word) (h : Held) → CanSettle (reacted line_rules a values h)
+unfolding clap_on_literals
+reacted-settles a values h = refl
+
+-- between an option and its value
+abbrev waits : OptionName → Held → Walk
+waits o h = state (record (settled line_rules h) { pending = Some (long_name o, []) }) (option (long_name o)) false
+
+-- behind the value
+abbrev valued : OptionName → Word → Held → Held
+valued o value h = record (settled line_rules h) { pending = Some (long_name o, value ∷ []) }
+
+apart-moves : (o : OptionName) (h : Held) (w : Bool) → takes_value o ≡ true → walked line_rules [] (state h (between w) false) (option_word o) ≡ waits o h
+unfolding clap_on_literals
+apart-moves Quantum h true e = refl
+apart-moves Quantum h false e = refl
+apart-moves Seed h true e = refl
+apart-moves Seed h false e = refl
+apart-moves Free h w e = absurd (false≢true e)
+apart-moves Book h true e = refl
+apart-moves Book h false e = refl
+apart-moves Only h w e = absurd (false≢true e)
+apart-moves Json h w e = absurd (false≢true e)
+
+apart-passes : (o : OptionName) (h : Held) (w : Bool) → takes_value o ≡ true → CanSettle h → turn_passes line_shape [] (state h (between w) false) (option_word o) ≡ true
+unfolding clap_on_literals
+apart-passes Quantum h true e can = rw can refl
+apart-passes Quantum h false e can = rw can refl
+apart-passes Seed h true e can = rw can refl
+apart-passes Seed h false e can = rw can refl
+apart-passes Free h w e can = absurd (false≢true e)
+apart-passes Book h true e can = rw can refl
+apart-passes Book h false e can = rw can refl
+apart-passes Only h w e can = absurd (false≢true e)
+apart-passes Json h w e can = absurd (false≢true e)
+
+value-moves : (o : OptionName) (h : Held) (value : Word) → takes_value o ≡ true → begins_with_hyphen value ≡ false → walked line_rules [] (waits o h) value ≡ state (valued o value h) idle false
+unfolding clap_on_literals
+value-moves Quantum h [] e plain = refl
+value-moves Quantum h (x ∷ xs) e plain = rw plain (rw plain refl)
+value-moves Seed h [] e plain = refl
+value-moves Seed h (x ∷ xs) e plain = rw plain (rw plain refl)
+value-moves Free h value e plain = absurd (false≢true e)
+value-moves Book h [] e plain = refl
+value-moves Book h (x ∷ xs) e plain = rw plain (rw plain refl)
+value-moves Only h value e plain = absurd (false≢true e)
+value-moves Json h value e plain = absurd (false≢true e)
+
+value-passes : (o : OptionName) (h : Held) (value : Word) → begins_with_hyphen value ≡ false → turn_passes line_shape [] (waits o h) value ≡ true
+unfolding clap_on_literals
+value-passes o h [] plain = refl
+value-passes o h (x ∷ xs) plain = rw plain (rw plain refl)
+
+valued-settles : (o : OptionName) (value : Word) (h : Held) → takes_value o ≡ true → has_option o (rows_at h) ≡ false → CanSettle (valued o value h)
+unfolding clap_on_literals
+valued-settles Quantum value h e first = rw first refl
+valued-settles Seed value h e first = rw first refl
+valued-settles Free value h e first = absurd (false≢true e)
+valued-settles Book value h e first = rw first refl
+valued-settles Only value h e first = absurd (false≢true e)
+valued-settles Json value h e first = absurd (false≢true e)
+
+valued-rows : (o : OptionName) (value : Word) (h : Held) → takes_value o ≡ true → rows_at (valued o value h) ≡ with_use o (value ∷ []) (rows_at h)
+valued-rows Quantum value h e = refl
+valued-rows Seed value h e = refl
+valued-rows Free value h e = absurd (false≢true e)
+valued-rows Book value h e = refl
+valued-rows Only value h e = absurd (false≢true e)
+valued-rows Json value h e = absurd (false≢true e)
 
 -- ---- pieces
 
--- the rows with a piece among them
-abbrev pub with_piece : List Row → Piece → List Row
-with_piece rows (positional word) = with_number rows word
-with_piece rows (quantum_apart value) = with_quantum rows value
-with_piece rows (quantum_joined value) = with_quantum rows value
-
-pub has_quantum_row-number : (rows : List Row) (word : Word) → has_quantum_row (with_number rows word) ≡ has_quantum_row rows
-has_quantum_row-number [] word = refl
-has_quantum_row-number (r ∷ rs) word = by (bytes_eq r.id (codes "words")) (has_quantum_row-number rs word)
-  where
-    by : (b : Bool) → has_quantum_row (with_number rs word) ≡ has_quantum_row rs
-        → has_quantum_row (cond b (more_values CommandLine (word ∷ []) r ++ rs) (r ∷ with_number rs word)) ≡ (bytes_eq r.id (codes "quantum") || has_quantum_row rs)
-    by true e = refl
-    by false e = ap (λ b. bytes_eq r.id (codes "quantum") || b) e
+-- from each state with these rows, the words reach others
+abbrev pub FromEach : List Row → List Word → List Row → Type 0
+FromEach start words end = (h : Held) (w : Bool) → CanSettle h → rows_at h ≡ start → Reaches (state h (between w) false) words end
 
 -- a positional, and then others
 name-reach : (word : Word) (words : List Word) (start end : List Row) → is_name word ≡ true → FromEach (with_number start word) words end → FromEach start (word ∷ words) end
-name-reach word words start end plain from = λ last rows can is.
-    reaches-more _ _ word words end (name-moves last rows word (name-cases word plain)) (name-passes last rows word (name-cases word plain) can)
-    (from (numbered word) (with_last last rows) tt (ap (λ rs. with_number rs word) is))
+name-reach word words start end plain from = λ h w can is.
+    reaches-more _ _ word words end (name-moves h w word (name-cases word plain)) (name-passes h w word (name-cases word plain) can)
+    (from (numbered h word) true (numbered-settles h word) (numbered-rows h word ∙ ap (λ rs. with_number rs word) is))
 
-apart-reach : (value : Word) (words : List Word) (start end : List Row) → begins_with_hyphen value ≡ false → has_quantum_row start ≡ false
-    → FromEach (with_quantum start value) words end → FromEach start (codes "--quantum" ∷ value ∷ words) end
-apart-reach value words start end plain first from = λ last rows can is.
-    reaches-more _ _ (codes "--quantum") (value ∷ words) end (apart-moves last rows) (apart-passes last rows can)
-    (reaches-more _ _ value words end (value-moves _ value plain) (value-passes _ value plain)
-    (from (valued value) (with_last last rows) (ap has_quantum_row is ∙ first) (ap (λ rs. with_quantum rs value) is)))
+flag-reach : (o : OptionName) (words : List Word) (start end : List Row) → takes_value o ≡ false → has_option o start ≡ false
+    → FromEach (with_use o [] start) words end → FromEach start (option_word o ∷ words) end
+flag-reach o words start end is_flag first from = λ h w can is.
+    reaches-more _ _ (option_word o) words end (flag-moves o h w is_flag) (flag-passes o h w is_flag can (ap (has_option o) is ∙ first))
+    (from (reacted line_rules (built_option o) [] h) false (reacted-settles (built_option o) [] h) (ap (with_use o []) is))
 
-joined-reach : (value : Word) (words : List Word) (start end : List Row) → has_quantum_row start ≡ false
-    → FromEach (with_quantum start value) words end → FromEach start ((codes "--quantum=" ++ value) ∷ words) end
-joined-reach value words start end first from = λ last rows can is.
-    reaches-more _ _ (codes "--quantum=" ++ value) words end (joined-moves last rows value)
-    (joined-passes last rows value can (ap has_quantum_row is ∙ first))
-    (from begun (with_quantum (with_last last rows) value) tt (ap (λ rs. with_quantum rs value) is))
+joined-reach : (o : OptionName) (value : Word) (words : List Word) (start end : List Row) → takes_value o ≡ true → has_option o start ≡ false
+    → FromEach (with_use o (value ∷ []) start) words end → FromEach start ((option_word o ++ (codes "=" ++ value)) ∷ words) end
+joined-reach o value words start end takes first from = λ h w can is.
+    reaches-more _ _ (option_word o ++ (codes "=" ++ value)) words end (joined-moves o h w value takes) (joined-passes o h w value takes can (ap (has_option o) is ∙ first))
+    (from (reacted line_rules (built_option o) (value ∷ []) h) false (reacted-settles (built_option o) (value ∷ []) h) (ap (with_use o (value ∷ [])) is))
 
--- pieces of which none is the option
-names-reach : (pieces : List Piece) (rest : List Word) (start end : List Row) → list_all is_plain pieces ≡ true → quanta pieces ≡ []
+apart-reach : (o : OptionName) (value : Word) (words : List Word) (start end : List Row) → takes_value o ≡ true → begins_with_hyphen value ≡ false → has_option o start ≡ false
+    → FromEach (with_use o (value ∷ []) start) words end → FromEach start (option_word o ∷ value ∷ words) end
+apart-reach o value words start end takes plain first from = λ h w can is.
+    reaches-more _ _ (option_word o) (value ∷ words) end (apart-moves o h w takes) (apart-passes o h w takes can)
+    (reaches-more _ _ value words end (value-moves o h value takes plain) (value-passes o h value plain)
+    (from (valued o value h) false (valued-settles o value h takes (ap (has_option o) is ∙ first)) (valued-rows o value h takes ∙ ap (with_use o (value ∷ [])) is)))
+
+pub pieces-reach : (pieces : List Piece) (rest : List Word) (start end : List Row) → list_all is_plain pieces ≡ true → Fresh (given start) pieces
     → FromEach (fold with_piece start pieces) rest end → FromEach start (flat_map words_of_piece pieces ++ rest) end
-names-reach [] rest start end plain none from = from
-names-reach (positional word ∷ pieces) rest start end plain none from =
+pieces-reach [] rest start end plain fresh from = from
+pieces-reach (positional word ∷ pieces) rest start end plain fresh from =
     name-reach word _ start end (and-left (is_name word) (list_all is_plain pieces) plain)
-    (names-reach pieces rest (with_number start word) end (and-right (is_name word) (list_all is_plain pieces) plain) none from)
-names-reach (quantum_apart value ∷ pieces) rest start end plain none from = absurd (is-none value (quanta pieces) none)
-names-reach (quantum_joined value ∷ pieces) rest start end plain none from = absurd (is-none value (quanta pieces) none)
-
--- pieces of which one at most is the option
-pub pieces-reach : (pieces : List Piece) (rest : List Word) (start end : List Row) → list_all is_plain pieces ≡ true → list_all is_followed pieces ≡ true → length (quanta pieces) ≤ 1
-    → has_quantum_row start ≡ false → FromEach (fold with_piece start pieces) rest end → FromEach start (flat_map words_of_piece pieces ++ rest) end
-pieces-reach [] rest start end plain followed few first from = from
-pieces-reach (positional word ∷ pieces) rest start end plain followed few first from =
-    name-reach word _ start end (and-left (is_name word) (list_all is_plain pieces) plain)
-    (pieces-reach pieces rest (with_number start word) end (and-right (is_name word) (list_all is_plain pieces) plain) followed few (has_quantum_row-number start word ∙ first) from)
-pieces-reach (quantum_apart value ∷ pieces) rest start end plain followed few first from =
-    apart-reach value _ start end (not-true (begins_with_hyphen value) (and-left (not (begins_with_hyphen value)) (list_all is_followed pieces) followed)) first
-    (names-reach pieces rest (with_quantum start value) end plain (no-more value (quanta pieces) few) from)
-pieces-reach (quantum_joined value ∷ pieces) rest start end plain followed few first from =
-    joined-reach value _ start end first (names-reach pieces rest (with_quantum start value) end plain (no-more value (quanta pieces) few) from)
+    (pieces-reach pieces rest (with_number start word) end (and-right (is_name word) (list_all is_plain pieces) plain)
+    (λ o. ((λ h. (fresh o).0 (sym (number-keeps o start word) ∙ h)), (fresh o).1)) from)
+pieces-reach (flag o ∷ pieces) rest start end plain fresh from =
+    flag-reach o _ start end (not-true (takes_value o) (and-left (not (takes_value o)) (list_all is_plain pieces) plain)) (not-given (given start) o [] pieces fresh)
+    (pieces-reach pieces rest (with_use o [] start) end (and-right (not (takes_value o)) (list_all is_plain pieces) plain) (behind start o [] [] pieces fresh) from)
+pieces-reach (joined o value ∷ pieces) rest start end plain fresh from =
+    joined-reach o value _ start end (and-left (takes_value o) (list_all is_plain pieces) plain) (not-given (given start) o value pieces fresh)
+    (pieces-reach pieces rest (with_use o (value ∷ []) start) end (and-right (takes_value o) (list_all is_plain pieces) plain) (behind start o value (value ∷ []) pieces fresh) from)
+pieces-reach (apart o value ∷ pieces) rest start end plain fresh from =
+    let here = and-left (takes_value o && not (begins_with_hyphen value)) (list_all is_plain pieces) plain in
+    let more = and-right (takes_value o && not (begins_with_hyphen value)) (list_all is_plain pieces) plain in
+    apart-reach o value _ start end (and-left (takes_value o) (not (begins_with_hyphen value)) here) (not-true (begins_with_hyphen value) (and-right (takes_value o) (not (begins_with_hyphen value)) here))
+    (not-given (given start) o value pieces fresh)
+    (pieces-reach pieces rest (with_use o (value ∷ []) start) end more (behind start o value (value ∷ []) pieces fresh) from)

@@ -1,6 +1,6 @@
 -- A word that is no number, and one more number.
 use Rattle.std.proofs.Common.{◌∙◌, FitsSigned, w64, rules, to_z-of_z, ap, sym}
-use Rattle.pg_commands_words.specs.Once.{number_of}
+use Rattle.pg_commands_words.specs.Values.{number_of}
 use Rattle.pg_commands_words.proofs.Mapped.{mapped-more, mapped-none}
 use Rattle.pg_commands_words.proofs.values.numbers.Goals as goal
 

@@ -1,5 +1,5 @@
 use Rattle.std.proofs.Common.{◌≡◌, map, take, Some}
-use Rattle.pg_commands_words.specs.Once.{number_of}
+use Rattle.pg_commands_words.specs.Values.{number_of}
 use Rattle.pg_commands_words.proofs.values.numbers.Given as goal
 
 abbrev pub invariant-loop-word : goal.invariant-loop-word
