@@ -1,6 +1,7 @@
 //! Runs of the top call on texts in memory, and the files of a row.
 use anyhow::Result;
 use pg_commands::{Status, peregrine};
+use pg_free::Free;
 use pg_io::{MemoryShelf, MemorySink, MemorySource};
 use std::alloc::{AllocError, Global};
 use std::fs;
@@ -22,14 +23,23 @@ fn words_of(alloc: Global, line: &str) -> Result<Vec<String>, AllocError> {
 
 /// The status of the command whose words these are, with this shelf and this source, and what it writes.
 pub(crate) fn outcome(
-    alloc: Global,
+    rt: &HostRuntime,
     line: &str,
     mut shelf: MemoryShelf,
     mut src: MemorySource,
 ) -> Result<(Status, Vec<u8>), AllocError> {
+    let alloc = rt.alloc();
     let words = words_of(alloc, line)?;
     let mut out = MemorySink::new(alloc, ROOM, Vec::new(alloc))?;
-    let status = peregrine(alloc, &words, &mut src, &mut shelf, &mut out);
+    let status = peregrine(
+        rt,
+        alloc,
+        &words,
+        &mut src,
+        &mut shelf,
+        &mut out,
+        &mut Free::new(),
+    );
     Ok((status, out.bytes().to_vec(alloc)?))
 }
 

@@ -37,12 +37,12 @@ fn slow_source(alloc: Global, input: &[u8], failing: &[u64]) -> Result<MemorySou
 
 /// The status of the command whose words these are, with this program text and this source, and what it writes.
 fn answer(
-    alloc: Global,
+    rt: &HostRuntime,
     line: &str,
     text: &[u8],
     src: MemorySource,
 ) -> Result<(Status, Vec<u8>), AllocError> {
-    outcome(alloc, line, shelf_of(alloc, text)?, src)
+    outcome(rt, line, shelf_of(rt.alloc(), text)?, src)
 }
 
 /// Runs a command line, and prints what comes of it, under a title. Says so where reads of one byte give something else.
@@ -54,12 +54,12 @@ fn print_outcome(
     input: &[u8],
 ) -> Result<()> {
     let src = source_of(rt.alloc(), input)?;
-    let (status, written) = answer(rt.alloc(), line, text, src)?;
+    let (status, written) = answer(rt, line, text, src)?;
     let code = status.code();
     println!(rt; "{title}: {code}")?;
     print_bytes(rt, written.as_slice())?;
     let src = slow_source(rt.alloc(), input, &[])?;
-    let (other, others) = answer(rt.alloc(), line, text, src)?;
+    let (other, others) = answer(rt, line, text, src)?;
     if status != other || written.as_slice() != others.as_slice() {
         println!(rt; "reads of one byte give something else")?;
     }
@@ -78,10 +78,10 @@ fn print_row(rt: &HostRuntime, row: &str, line: &str, rest: &str) -> Result<()> 
 }
 
 /// Whether `serve` answers anything else on a front of the text than that the program ran or was refused.
-fn has_other_front(alloc: Global, text: &[u8]) -> Result<bool, AllocError> {
+fn has_other_front(rt: &HostRuntime, text: &[u8]) -> Result<bool, AllocError> {
     for len in 0..text.len() {
-        let src = source_of(alloc, b"\n")?;
-        let (status, _) = answer(alloc, "serve x", &text[..len], src)?;
+        let src = source_of(rt.alloc(), b"\n")?;
+        let (status, _) = answer(rt, "serve x", &text[..len], src)?;
         if status != Status::Done && status != Status::ProgramRefused {
             return Ok(true);
         }
@@ -92,12 +92,17 @@ fn has_other_front(alloc: Global, text: &[u8]) -> Result<bool, AllocError> {
 /// The status of `serve` of the program text `text` over these lines, where the reads of these numbers fail, and what it
 /// writes. A read takes one byte.
 fn served(
-    alloc: Global,
+    rt: &HostRuntime,
     text: &[u8],
     lines: &[u8],
     failing: &[u64],
 ) -> Result<(Status, Vec<u8>), AllocError> {
-    answer(alloc, "serve x", text, slow_source(alloc, lines, failing)?)
+    answer(
+        rt,
+        "serve x",
+        text,
+        slow_source(rt.alloc(), lines, failing)?,
+    )
 }
 
 /// Prints a status and what was written, with `/` for a line feed.
@@ -124,9 +129,9 @@ fn front(bytes: &[u8], len: usize) -> &[u8] {
 
 /// Serves the lines where the source ends behind so many bytes, and where the read behind them fails.
 fn print_cut(rt: &HostRuntime, text: &[u8], lines: &[u8], len: usize) -> Result<()> {
-    let (status, written) = served(rt.alloc(), text, front(lines, len), &[])?;
+    let (status, written) = served(rt, text, front(lines, len), &[])?;
     print_served(rt, "the source ends", status, written.as_slice())?;
-    let (status, written) = served(rt.alloc(), text, lines, &[len as u64])?;
+    let (status, written) = served(rt, text, lines, &[len as u64])?;
     print_served(rt, "a read fails", status, written.as_slice())
 }
 
@@ -142,15 +147,15 @@ fn print_cuts(rt: &HostRuntime, text: &[u8], lines: &[u8]) -> Result<()> {
 /// Whether a failed read behind `len` bytes leaves anything else than the replies to the first `end` bytes, or these aren't a
 /// front of the replies `whole`.
 fn cut_differs(
-    alloc: Global,
+    rt: &HostRuntime,
     text: &[u8],
     lines: &[u8],
     end: usize,
     len: usize,
     whole: &[u8],
 ) -> Result<bool, AllocError> {
-    let (done, replies) = served(alloc, text, front(lines, end), &[])?;
-    let (failed, written) = served(alloc, text, lines, &[len as u64])?;
+    let (done, replies) = served(rt, text, front(lines, end), &[])?;
+    let (failed, written) = served(rt, text, lines, &[len as u64])?;
     Ok(
         done != Status::Done
             || failed != Status::ReadFault
@@ -161,14 +166,14 @@ fn cut_differs(
 
 /// Whether, at some prefix of the lines, a failed read behind it leaves anything else than the replies to the lines that end in
 /// it, or these aren't a front of the replies to all lines.
-fn has_other_cut(alloc: Global, text: &[u8], lines: &[u8]) -> Result<bool, AllocError> {
-    let (_, whole) = served(alloc, text, lines, &[])?;
+fn has_other_cut(rt: &HostRuntime, text: &[u8], lines: &[u8]) -> Result<bool, AllocError> {
+    let (_, whole) = served(rt, text, lines, &[])?;
     let mut end: usize = 0;
     for len in 0..lines.len() + 1 {
         if len > 0 && lines[len - 1] == b'\n' {
             end = len;
         }
-        if cut_differs(alloc, text, lines, end, len, whole.as_slice())? {
+        if cut_differs(rt, text, lines, end, len, whole.as_slice())? {
             return Ok(true);
         }
     }
@@ -246,7 +251,7 @@ pub(crate) fn print_sessions(rt: &HostRuntime) -> Result<()> {
         }
     }
     print_limits(rt)?;
-    let other = has_other_front(rt.alloc(), joined(rt, SHORTENED)?.as_slice())?;
+    let other = has_other_front(rt, joined(rt, SHORTENED)?.as_slice())?;
     println!(rt; "a proper prefix of {SHORTENED} has another status than 0 and 3: {other}")?;
     print_prefixes(rt)
 }

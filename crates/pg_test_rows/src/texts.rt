@@ -16,15 +16,16 @@ use std::fs;
 const PIECE: usize = 4096;
 
 /// The status of the command whose words these are, where its source has this text and its shelf no file, and what it writes.
-fn answer(alloc: Global, line: &str, text: Vec<u8>) -> Result<(Status, Vec<u8>), AllocError> {
+fn answer(rt: &HostRuntime, line: &str, text: Vec<u8>) -> Result<(Status, Vec<u8>), AllocError> {
+    let alloc = rt.alloc();
     let src = MemorySource::new(text, PIECE, Vec::new(alloc));
     let shelf = MemoryShelf::new(alloc, Vec::new(alloc), Vec::new(alloc));
-    outcome(alloc, line, shelf, src)
+    outcome(rt, line, shelf, src)
 }
 
 /// Runs a command line on a text, and prints what comes of it.
 fn print_outcome(rt: &HostRuntime, line: &str, name: &str, text: Vec<u8>) -> Result<()> {
-    let (status, written) = answer(rt.alloc(), line, text)?;
+    let (status, written) = answer(rt, line, text)?;
     let code = status.code();
     println!(rt; "{line} < {name}: {code}")?;
     print_bytes(rt, written.as_slice())
@@ -33,7 +34,7 @@ fn print_outcome(rt: &HostRuntime, line: &str, name: &str, text: Vec<u8>) -> Res
 /// Runs `once` on a text in which `⏎` stands for a line feed, and prints what was written, and then the text.
 fn print_check(rt: &HostRuntime, text: &str) -> Result<()> {
     let lines = text.replace(rt.alloc(), "⏎", "\n")?;
-    let (_, written) = answer(rt.alloc(), "once", lines.as_bytes().to_vec(rt.alloc())?)?;
+    let (_, written) = answer(rt, "once", lines.as_bytes().to_vec(rt.alloc())?)?;
     match str::from_utf8(written.as_slice()) {
         Ok(said) => {
             let said = said.trim_end();
@@ -55,9 +56,9 @@ fn print_checks(rt: &HostRuntime) -> Result<()> {
 }
 
 /// Whether `once` answers anything else on a front of the text than that the program ran or was refused.
-fn has_other_front(alloc: Global, text: &[u8]) -> Result<bool, AllocError> {
+fn has_other_front(rt: &HostRuntime, text: &[u8]) -> Result<bool, AllocError> {
     for len in 0..text.len() {
-        let (status, _) = answer(alloc, "once", text[..len].to_vec(alloc)?)?;
+        let (status, _) = answer(rt, "once", text[..len].to_vec(rt.alloc())?)?;
         if status != Status::Done && status != Status::ProgramRefused {
             return Ok(true);
         }
@@ -91,7 +92,7 @@ pub(crate) fn print_texts(rt: &HostRuntime) -> Result<()> {
     }
     let blanks = vec![in rt.alloc(); b' '; PROGRAM_TEXT_LIMIT + 1]?;
     print_outcome(rt, "once", "1048577 blanks", blanks)?;
-    let other = has_other_front(rt.alloc(), joined(rt, SHORTENED)?.as_slice())?;
+    let other = has_other_front(rt, joined(rt, SHORTENED)?.as_slice())?;
     println!(rt; "a proper prefix of {SHORTENED} has another status than 0 and 3: {other}")?;
     print_canonical(rt, joined(rt, "least.ll")?.as_slice())?;
     print_checks(rt)
