@@ -1,25 +1,32 @@
 -- The command that the parser is given, and what its matches say.
-use Rattle.std.specs.Prelude.{◌≡◌, ◌≤◌, ℕ, ℤ, true, List, [], ◌∷◌, codes, length, map, Option, Some, None, unwrap_or}
+use Rattle.std.specs.Prelude.{◌≡◌, Bool, true, false, if◌then◌else◌, List, [], ◌∷◌, codes, Option, Some, None, unwrap_or}
+use Rattle.std.specs.Option.{option_map}
+use Rattle.std.specs.Str.{bytes_eq}
 use Rattle.clap.specs.Walk.{Row, Rule, Text, all_of, first_of}
 use Rattle.clap.specs.Simple.{App, Shape, new_app, new_rule, new_shape, with_rule, with_subcommand}
-use Rattle.clap.specs.declared.builder.action.ArgAction.TheVariants.{Append}
-use Rattle.pg_num.specs.declared.limits.TheConstants.{NUMBERS_LIMIT}
-use Rattle.pg_commands_words.specs.declared.values.TheConstants.{DEFAULT_QUANTUM}
-use Rattle.pg_commands_words.specs.Commands.{Meaning, once, serve, show, trial, trial_of}
-use Rattle.pg_commands_words.specs.Once.{number_of, quantum_of}
-use Rattle.pg_commands_words.specs.Pieces.{Word}
+use Rattle.clap.specs.declared.builder.action.ArgAction.TheVariants.{Append, SetTrue}
+use Rattle.pg_commands_words.specs.Commands.{HasValues, Meaning, Says, name_of}
+use Rattle.pg_commands_words.specs.Pieces.{Given, Word, long_name, takes_value}
+use Rattle.pg_commands_words.specs.declared.matches.Options.{Options}
 use Rattle.pg_commands_words.specs.declared.names.Name.{Name}
-use Rattle.pg_commands_words.specs.declared.names.Name.TheVariants.{Once, Serve, Show, Trial}
+use Rattle.pg_commands_words.specs.declared.names.OptionName.{OptionName}
+use Rattle.pg_commands_words.specs.declared.names.OptionName.TheVariants.{Quantum, Seed, Free, Book, Only, Json}
 
-abbrev pub quantum_rule : Rule
-quantum_rule = record (new_rule (codes "quantum")) { long = Some (codes "quantum") }
+abbrev pub option_rule : OptionName → Rule
+option_rule option =
+    let rule = record (new_rule (long_name option)) { long = Some (long_name option) } in
+    if takes_value option then rule else record rule { action = Some SetTrue }
 
 abbrev pub words_rule : Rule
 words_rule = record (new_rule (codes "words")) { action = Some Append }
 
--- the command of this name; each has the same option and takes any words
+abbrev pub with_option : OptionName → App → App
+with_option option app = with_rule app (option_rule option)
+
+-- the command of this name; each has the same options and takes any words
 abbrev pub line_app : Text → App
-line_app name = with_rule (with_rule (new_app name) quantum_rule) words_rule
+line_app name =
+    with_rule (with_option Json (with_option Only (with_option Book (with_option Free (with_option Seed (with_option Quantum (new_app name))))))) words_rule
 
 abbrev pub program_top : Shape
 program_top = record (new_shape (codes "peregrine")) {
@@ -29,54 +36,70 @@ program_top = record (new_shape (codes "peregrine")) {
   disable_version_flag = true;
 }
 
+abbrev pub with_line : Text → App → App
+with_line name app = with_subcommand app (line_app name).top
+
 abbrev pub program_app : App
 program_app =
-    with_subcommand (with_subcommand (with_subcommand (with_subcommand (record { top = program_top; subs = [] })
-    (line_app (codes "once")).top) (line_app (codes "serve")).top) (line_app (codes "show")).top) (line_app (codes "trial")).top
+    with_line (codes "trial") (with_line (codes "conditions") (with_line (codes "show") (with_line (codes "book") (with_line (codes "serve") (with_line (codes "once")
+    (record { top = program_top; subs = [] }))))))
+
+-- ---- what the matches say
 
 -- the positionals, in their order
 abbrev pub words_in : List Row → List Word
 words_in rows = unwrap_or (all_of (codes "words") rows) []
 
--- the text of the option
-abbrev pub quantum_in : List Row → Option Word
-quantum_in rows = first_of (codes "quantum") rows
+-- the text of an option
+abbrev pub text_in : OptionName → List Row → Option Word
+text_in option rows = first_of (long_name option) rows
 
-abbrev pub quantum_of_text : Option Word → Option ℕ
-quantum_of_text None = Some DEFAULT_QUANTUM
-quantum_of_text (Some text) = quantum_of text
+-- a flag's text says that it is given
+abbrev pub is_set : Option Word → Bool
+is_set None = false
+is_set (Some text) = bytes_eq text (codes "true")
 
--- a quantum and the words of numbers have these values
-pub record HasValues (chosen : Option ℕ) (words : List Word) (quantum : ℕ) (numbers : List ℤ) : Type 0 where
-  pub has_quantum : chosen ≡ Some quantum
-  pub has_numbers : map number_of words ≡ map Some numbers
-  pub few : length numbers ≤ NUMBERS_LIMIT
-
--- the option's text and the positionals have these values
-abbrev pub Says : Option Word → List Word → Meaning → Type 0
-Says option words (once quantum numbers) = HasValues (quantum_of_text option) words quantum numbers
-Says option words (serve file quantum) = (quantum_of_text option ≡ Some quantum) × (words ≡ file ∷ [])
-Says option words (show file quantum numbers) = (texts : List Word) × (words ≡ file ∷ texts) × HasValues (quantum_of_text option) texts quantum numbers
-Says option words (trial number) = (option ≡ None) × (text : Word) × (words ≡ text ∷ []) × (trial_of text ≡ Some number)
-
-abbrev pub name_of : Meaning → Name
-name_of (once quantum numbers) = Once
-name_of (serve file quantum) = Serve
-name_of (show file quantum numbers) = Show
-name_of (trial number) = Trial
+abbrev pub given_of_rows : List Row → Given
+given_of_rows rows = record {
+  quantum = text_in Quantum rows;
+  seed = text_in Seed rows;
+  free = is_set (text_in Free rows);
+  book = text_in Book rows;
+  only = is_set (text_in Only rows);
+  json = is_set (text_in Json rows);
+}
 
 -- they are this command of this name
-abbrev pub SaysOf : Name → Option Word → List Word → Meaning → Type 0
-SaysOf name option words meaning = (name_of meaning ≡ name) × Says option words meaning
+abbrev pub SaysOf : Name → Given → List Word → Meaning → Type 0
+SaysOf name given words meaning = (name_of meaning ≡ name) × Says given words meaning
 
 -- they are no command of this name
-abbrev pub SaysNone : Name → Option Word → List Word → Type 0
-SaysNone name option words = (meaning : Meaning) → SaysOf name option words meaning → ⊥
+abbrev pub SaysNone : Name → Given → List Word → Type 0
+SaysNone name given words = (meaning : Meaning) → SaysOf name given words meaning → ⊥
 
 -- the subcommand's matches are this command of this name
 abbrev pub Reads : Name → Option (Text × List Row) → Meaning → Type 0
 Reads name None meaning = ⊥
-Reads name (Some found) meaning = SaysOf name (quantum_in found.1) (words_in found.1) meaning
+Reads name (Some found) meaning = SaysOf name (given_of_rows found.1) (words_in found.1) meaning
 
 abbrev pub ReadsNone : Name → Option (Text × List Row) → Type 0
 ReadsNone name found = (meaning : Meaning) → Reads name found meaning → ⊥
+
+-- ---- what the code reads of them
+
+abbrev pub given_of : Options → Given
+given_of o = record {
+  quantum = option_map (λ s. s.now) o.quantum;
+  seed = option_map (λ s. s.now) o.seed;
+  free = o.free;
+  book = option_map (λ s. s.now) o.book;
+  only = o.only;
+  json = o.json;
+}
+
+-- they have the values of this command of this name
+abbrev pub HasValuesOf : Name → Given → List Word → Meaning → Type 0
+HasValuesOf name given words meaning = (name_of meaning ≡ name) × HasValues given words meaning
+
+abbrev pub HasNoValues : Name → Given → List Word → Type 0
+HasNoValues name given words = (meaning : Meaning) → HasValuesOf name given words meaning → ⊥

@@ -1,5 +1,5 @@
 pub mod Clap
 pub mod Commands
 pub mod Lines
-pub mod Once
 pub mod Pieces
+pub mod Values

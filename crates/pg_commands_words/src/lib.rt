@@ -9,6 +9,6 @@ mod parse;
 mod positions;
 mod values;
 
-pub use commands::{Command, Once, Serve, Show};
+pub use commands::{Book, Command, Conditions, Once, RecordingWay, Serve, Show};
 pub use parse::command;
 pub use values::DEFAULT_QUANTUM;

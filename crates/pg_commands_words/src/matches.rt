@@ -1,14 +1,27 @@
 //! The words as the parser reads them.
 ghost use Rattle.std.specs.Prelude.{◌≡◌, [], map, string_bytes, IfOk, IfErr, true, false};
-ghost use Rattle.clap.specs.Simple.{app_of, with_subcommand};
-ghost use Rattle.clap.specs.Words.{subcommand_of, subcommand_rows_of, takes, kind_of};
+ghost use Rattle.std.specs.Option.{option_map};
+ghost use Rattle.clap.specs.Simple.{app_of};
+ghost use Rattle.clap.specs.Words.{found_of, rows_of, rule_of, subcommand_of, subcommand_rows_of, takes, kind_of};
 ghost use Rattle.clap.specs.declared.builder.command.Command.TheViews.{out-Command};
 ghost use Rattle.clap.specs.declared.error.kind.ErrorKind.TheVariants.{OutOfMemory};
-ghost use Rattle.pg_commands_words.specs.Clap.{line_app, program_app, program_top};
+ghost use Rattle.pg_commands_words.specs.Clap.{given_of, given_of_rows, is_set, line_app, option_rule, program_app, program_top, with_line, with_option};
 
+use crate::names::OptionName;
 use clap::error::ErrorKind;
 use clap::{Arg, ArgAction, ArgMatches, Command, Error};
 use std::alloc::{AllocError, Global};
+
+/// The options that the parser found: the text of each that has a value, and which flags.
+#[derive(Clone, Copy)]
+pub(crate) struct Options<'a> {
+    pub quantum: Option<&'a str>,
+    pub seed: Option<&'a str>,
+    pub free: bool,
+    pub book: Option<&'a str>,
+    pub only: bool,
+    pub json: bool,
+}
 
 /// The matches of the program's command on words that it takes.
 pub(crate) fn matches(alloc: Global, words: &[String]) -> Result<ArgMatches<'_>, AllocError>
@@ -24,14 +37,58 @@ pub(crate) fn matches(alloc: Global, words: &[String]) -> Result<ArgMatches<'_>,
     }
 }
 
-// The command of a name, with the option `--quantum` and any words.
+// What the parser says of these words.
+fn parsed(alloc: Global, words: &[String]) -> Result<ArgMatches<'_>, Error>
+    ensures found { IfOk result (λ m. subcommand_rows_of m ≡ subcommand_of program_app (map string_bytes words.now)) }
+    ensures refused { IfErr result (λ e. takes program_app (map string_bytes words.now) ≡ true → kind_of e ≡ OutOfMemory) }
+{
+    let program = program(alloc)?;
+    program.try_get_matches_from(words)
+}
+
+// ---- the program's command
+
+// An option.
+fn option<'a>(alloc: Global, name: OptionName) -> Arg<'a>
+    ensures rule { rule_of result ≡ option_rule name }
+    ensures local { result.global ≡ false }
+{
+    let option = Arg::new(alloc, name.long_name()).long(name.long_name());
+    if name.takes_value() {
+        option
+    } else {
+        option.action(ArgAction::SetTrue)
+    }
+}
+
+// A command with one more option.
+fn with_option<'a>(
+    alloc: Global,
+    command: Command<'a>,
+    name: OptionName,
+) -> Result<Command<'a>, AllocError>
+    requires local { (out-Command command.entry).has_globals ≡ false }
+    ensures app { IfOk result (λ c. app_of c ≡ with_option name (app_of command.entry)) }
+    ensures local { IfOk result (λ c. (out-Command c).has_globals ≡ false) }
+{
+    let option = option(alloc, name);
+    let command = command.arg(option)?;
+    Ok(command)
+}
+
+// The command of a name, with the options and any words.
 fn line_command<'a>(alloc: Global, name: &'a str) -> Result<Command<'a>, AllocError>
     ensures app { IfOk result (λ c. app_of c ≡ line_app name.entry.now) }
     ensures local { IfOk result (λ c. (out-Command c).has_globals ≡ false) }
 {
-    let quantum = Arg::new(alloc, "quantum").long("quantum");
+    let command = Command::new(alloc, name);
+    let command = with_option(alloc, command, OptionName::Quantum)?;
+    let command = with_option(alloc, command, OptionName::Seed)?;
+    let command = with_option(alloc, command, OptionName::Free)?;
+    let command = with_option(alloc, command, OptionName::Book)?;
+    let command = with_option(alloc, command, OptionName::Only)?;
+    let command = with_option(alloc, command, OptionName::Json)?;
     let words = Arg::new(alloc, "words").action(ArgAction::Append);
-    let command = Command::new(alloc, name).arg(quantum)?;
     let command = command.arg(words)?;
     Ok(command)
 }
@@ -42,7 +99,7 @@ fn with_line<'a>(
     program: Command<'a>,
     name: &'a str,
 ) -> Result<Command<'a>, AllocError>
-    ensures { IfOk result (λ c. app_of c ≡ with_subcommand (app_of program.entry) (line_app name.entry.now).top) }
+    ensures { IfOk result (λ c. app_of c ≡ with_line name.entry.now (app_of program.entry)) }
 {
     let line = line_command(alloc, name)?;
     let program = program.subcommand(line)?;
@@ -67,16 +124,35 @@ fn program<'a>(alloc: Global) -> Result<Command<'a>, AllocError>
     let program = bare_program(alloc);
     let program = with_line(alloc, program, "once")?;
     let program = with_line(alloc, program, "serve")?;
+    let program = with_line(alloc, program, "book")?;
     let program = with_line(alloc, program, "show")?;
+    let program = with_line(alloc, program, "conditions")?;
     let program = with_line(alloc, program, "trial")?;
     Ok(program)
 }
 
-// What the parser says of these words.
-fn parsed(alloc: Global, words: &[String]) -> Result<ArgMatches<'_>, Error>
-    ensures found { IfOk result (λ m. subcommand_rows_of m ≡ subcommand_of program_app (map string_bytes words.now)) }
-    ensures refused { IfErr result (λ e. takes program_app (map string_bytes words.now) ≡ true → kind_of e ≡ OutOfMemory) }
+// ---- what the parser found
+
+/// The options that the matches of a subcommand have.
+pub(crate) fn options_found<'a>(found: &ArgMatches<'a>) -> Options<'a>
+    ensures { given_of result ≡ given_of_rows (rows_of (found_of found.now)) }
 {
-    let program = program(alloc)?;
-    program.try_get_matches_from(words)
+    Options {
+        quantum: found.get_str("quantum"),
+        seed: found.get_str("seed"),
+        free: is_set(found.get_str("free")),
+        book: found.get_str("book"),
+        only: is_set(found.get_str("only")),
+        json: is_set(found.get_str("json")),
+    }
+}
+
+// Whether a flag is given, by the text that the parser has for it.
+fn is_set(text: Option<&str>) -> bool
+    ensures { result ≡ is_set (option_map (λ s. s.now) text.entry) }
+{
+    match text {
+        Some(text) => text == "true",
+        None => false,
+    }
 }

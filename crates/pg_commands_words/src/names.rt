@@ -1,13 +1,16 @@
-//! The words that name the commands.
-ghost use Rattle.std.specs.Prelude.{◌≡◌};
+//! The words that name the commands and their options.
+ghost use Rattle.std.specs.Prelude.{◌≡◌, ◌++◌, codes};
 ghost use Rattle.pg_commands_words.specs.Lines.{named};
+ghost use Rattle.pg_commands_words.specs.Pieces.{long_name, option_word, takes_value};
 
 /// Which command it is.
 #[derive(Clone, Copy, Debug, PartialEq, Eq)]
 pub(crate) enum Name {
     Once,
     Serve,
+    Book,
     Show,
+    Conditions,
     Trial,
 }
 
@@ -19,11 +22,86 @@ pub(crate) fn named(word: &str) -> Option<Name>
         Some(Name::Once)
     } else if word == "serve" {
         Some(Name::Serve)
+    } else if word == "book" {
+        Some(Name::Book)
     } else if word == "show" {
         Some(Name::Show)
+    } else if word == "conditions" {
+        Some(Name::Conditions)
     } else if word == "trial" {
         Some(Name::Trial)
     } else {
         None
+    }
+}
+
+/// Which option it is.
+#[derive(Clone, Copy, Debug, PartialEq, Eq)]
+pub(crate) enum OptionName {
+    /// `--quantum` and the steps of a turn.
+    Quantum,
+    /// `--seed` and a number.
+    Seed,
+    /// The flag `--free`.
+    Free,
+    /// `--book` and a name.
+    Book,
+    /// The flag `--only`.
+    Only,
+    /// The flag `--json`.
+    Json,
+}
+
+impl OptionName {
+    /// The name of the option.
+    pub(crate) fn long_name(self) -> &'static str
+        ensures { result.now ≡ long_name self }
+    {
+        match self {
+            OptionName::Quantum => "quantum",
+            OptionName::Seed => "seed",
+            OptionName::Free => "free",
+            OptionName::Book => "book",
+            OptionName::Only => "only",
+            OptionName::Json => "json",
+        }
+    }
+
+    /// The word of the option.
+    pub(crate) fn word(self) -> &'static [u8]
+        ensures { result.now ≡ option_word self }
+    {
+        match self {
+            OptionName::Quantum => b"--quantum",
+            OptionName::Seed => b"--seed",
+            OptionName::Free => b"--free",
+            OptionName::Book => b"--book",
+            OptionName::Only => b"--only",
+            OptionName::Json => b"--json",
+        }
+    }
+
+    /// The word of the option and `=`, behind which its value stands.
+    pub(crate) fn word_before_value(self) -> &'static [u8]
+        ensures { result.now ≡ option_word self ++ codes "=" }
+    {
+        match self {
+            OptionName::Quantum => b"--quantum=",
+            OptionName::Seed => b"--seed=",
+            OptionName::Free => b"--free=",
+            OptionName::Book => b"--book=",
+            OptionName::Only => b"--only=",
+            OptionName::Json => b"--json=",
+        }
+    }
+
+    /// Whether a value follows the option; the others are flags.
+    pub(crate) fn takes_value(self) -> bool
+        ensures { result ≡ takes_value self }
+    {
+        match self {
+            OptionName::Quantum | OptionName::Seed | OptionName::Book => true,
+            OptionName::Free | OptionName::Only | OptionName::Json => false,
+        }
     }
 }

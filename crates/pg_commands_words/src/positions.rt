@@ -1,19 +1,84 @@
 //! Where each word of a command line stands: before the parser reads the words, a test that it refuses none of them.
 ghost use Rattle.std.specs.Prelude.{◌≡◌, map, string_bytes};
 ghost use Rattle.pg_commands_words.specs.Pieces.{begins_with_hyphen, is_name};
-ghost use Rattle.pg_commands_words.specs.Lines.{ends_pieces, is_line, may_end, name_of_line, seen_after, seen_first};
+ghost use Rattle.pg_commands_words.specs.Lines.{after_role, after_option, after_value, ends_pieces, has_seen, is_line, role_of, role_as, name_of_line, nothing_seen, option_role, opening, seen_more, stands_after};
 
-use crate::names::{Name, named};
+use crate::names::{Name, OptionName, named};
 
-/// How much of the option `--quantum` was seen.
+/// What a word is, where no value is missing before it.
 #[derive(Clone, Copy, Debug, PartialEq, Eq)]
-pub(crate) enum Seen {
-    /// Nothing of it.
-    Nothing,
-    /// Its word, whose value is the next word.
-    OptionWord,
-    /// All of it.
-    Value,
+pub(crate) enum Role {
+    /// A positional.
+    Plain,
+    /// A flag, or an option with its value.
+    Whole(OptionName),
+    /// An option, whose value is the next word.
+    Opens(OptionName),
+}
+
+/// Which options were seen.
+#[derive(Clone, Copy, Debug, PartialEq, Eq)]
+pub(crate) struct Seen {
+    quantum: bool,
+    seed: bool,
+    free: bool,
+    book: bool,
+    only: bool,
+    json: bool,
+}
+
+/// How a line stands behind some of its words.
+#[derive(Clone, Copy, Debug, PartialEq, Eq)]
+pub(crate) struct Standing {
+    seen: Seen,
+    /// The value of the last option is missing.
+    waits: bool,
+}
+
+impl Seen {
+    // No option.
+    fn nothing() -> Seen
+        ensures { result ≡ nothing_seen }
+    {
+        Seen {
+            quantum: false,
+            seed: false,
+            free: false,
+            book: false,
+            only: false,
+            json: false,
+        }
+    }
+
+    // Whether the option was seen.
+    fn has(self, option: OptionName) -> bool
+        ensures { result ≡ has_seen self option }
+    {
+        match option {
+            OptionName::Quantum => self.quantum,
+            OptionName::Seed => self.seed,
+            OptionName::Free => self.free,
+            OptionName::Book => self.book,
+            OptionName::Only => self.only,
+            OptionName::Json => self.json,
+        }
+    }
+
+    // One option more.
+    fn more(self, option: OptionName) -> Seen
+        ensures { result ≡ seen_more self option }
+    {
+        let mut seen = self;
+        match option {
+            OptionName::Quantum => seen.quantum = true,
+            OptionName::Seed => seen.seed = true,
+            OptionName::Free => seen.free = true,
+            OptionName::Book => seen.book = true,
+            OptionName::Only => seen.only = true,
+            OptionName::Json => seen.json = true,
+        }
+        seen
+    }
 }
 
 /// The command whose word the words begin with, if a line stands behind it.
@@ -26,70 +91,127 @@ pub(crate) fn name_of_line(words: &[String]) -> Option<Name>
     }
 }
 
-// Whether each word other than `-` that begins with `-`, before a word `--`, is the option `--quantum`, which has its value
-// and stands there at most once. The words are those after the command word.
+// Whether each word other than `-` that begins with `-`, before a word `--`, is an option, which has its value if it takes
+// one and stands there at most once. The words are those after the command word.
 fn is_a_line(words: &[String]) -> bool
     ensures { result ≡ is_line (map string_bytes words.now) }
 {
-    let mut seen = Seen::Nothing;
+    let mut standing = Standing {
+        seen: Seen::nothing(),
+        waits: false,
+    };
     'words: for place in 0..words.len() {
         let word = words[place].as_bytes();
-        if ends_pieces(seen, word) {
+        if ends_pieces(standing, word) {
             return true;
         }
-        match seen_after(seen, word) {
-            Some(next) => seen = next,
+        match stands_after(standing, word) {
+            Some(next) => standing = next,
             None => return false,
         }
     }
-    may_end(seen)
+    !standing.waits
 }
 
 // Whether a word ends the pieces: it is `--`, and no value.
-fn ends_pieces(seen: Seen, word: &[u8]) -> bool
-    ensures { result ≡ ends_pieces seen word.now }
+fn ends_pieces(standing: Standing, word: &[u8]) -> bool
+    ensures { result ≡ ends_pieces standing word.now }
 {
-    match seen {
-        Seen::OptionWord => false,
-        Seen::Nothing | Seen::Value => word == b"--".as_slice(),
+    !standing.waits && word == b"--".as_slice()
+}
+
+// How the line stands with one word more, and none where the word may not stand there.
+fn stands_after(standing: Standing, word: &[u8]) -> Option<Standing>
+    ensures { result ≡ stands_after standing word.now }
+{
+    if standing.waits {
+        after_value(standing.seen, word)
+    } else {
+        after_role(standing.seen, role_of(word))
     }
 }
 
-// Whether the words may end here: no value is missing.
-fn may_end(seen: Seen) -> bool
-    ensures { result ≡ may_end seen }
+// The same where a value is missing: the word is it.
+fn after_value(seen: Seen, word: &[u8]) -> Option<Standing>
+    ensures { result ≡ after_value seen word.now }
 {
-    match seen {
-        Seen::OptionWord => false,
-        Seen::Nothing | Seen::Value => true,
+    if begins_with_hyphen(word) {
+        None
+    } else {
+        Some(Standing { seen, waits: false })
     }
 }
 
-// What was seen of the option with one word more, and none where the word may not stand there.
-fn seen_after(seen: Seen, word: &[u8]) -> Option<Seen>
-    ensures { result ≡ seen_after seen word.now }
+// The same where no value is missing, by what the word is.
+fn after_role(seen: Seen, role: Option<Role>) -> Option<Standing>
+    ensures { result ≡ after_role seen role }
 {
-    match seen {
-        Seen::Nothing => seen_first(word),
-        Seen::OptionWord if begins_with_hyphen(word) => None,
-        Seen::OptionWord => Some(Seen::Value),
-        Seen::Value if is_name(word) => Some(Seen::Value),
-        Seen::Value => None,
+    match role {
+        None => None,
+        Some(Role::Plain) => Some(Standing { seen, waits: false }),
+        Some(Role::Whole(option)) => after_option(seen, option, false),
+        Some(Role::Opens(option)) => after_option(seen, option, true),
     }
 }
 
-// The same where nothing of the option was seen before the word.
-fn seen_first(word: &[u8]) -> Option<Seen>
-    ensures { result ≡ seen_first word.now }
+// The same behind an option, which wasn't seen before.
+fn after_option(seen: Seen, option: OptionName, waits: bool) -> Option<Standing>
+    ensures { result ≡ after_option seen option waits }
+{
+    if seen.has(option) {
+        None
+    } else {
+        Some(Standing {
+            seen: seen.more(option),
+            waits,
+        })
+    }
+}
+
+// What a word is where no value is missing, and none where it may not stand there.
+fn role_of(word: &[u8]) -> Option<Role>
+    ensures { result ≡ role_of word.now }
 {
     if is_name(word) {
-        Some(Seen::Nothing)
-    } else if word.starts_with(b"--quantum=") {
-        Some(Seen::Value)
-    } else if word == b"--quantum".as_slice() {
-        Some(Seen::OptionWord)
+        Some(Role::Plain)
+    } else {
+        option_role(word)
+    }
+}
+
+// What a word is of some option.
+fn option_role(word: &[u8]) -> Option<Role>
+    ensures { result ≡ option_role word.now }
+{
+    role_as(OptionName::Quantum, word)
+        .or(role_as(OptionName::Seed, word))
+        .or(role_as(OptionName::Free, word))
+        .or(role_as(OptionName::Book, word))
+        .or(role_as(OptionName::Only, word))
+        .or(role_as(OptionName::Json, word))
+}
+
+// What a word is of this option.
+fn role_as(option: OptionName, word: &[u8]) -> Option<Role>
+    ensures { result ≡ role_as option word.now }
+{
+    if word == option.word() {
+        Some(opening(option))
+    } else if option.takes_value() && word.starts_with(option.word_before_value()) {
+        Some(Role::Whole(option))
     } else {
         None
+    }
+}
+
+// What the word of an option is.
+fn opening(option: OptionName) -> Role
+    ensures { result ≡ opening option }
+{
+    if option.takes_value() {
+        Role::Opens(option)
+    } else {
+        Role::Whole(option)
     }
 }
 

@@ -1,6 +1,6 @@
 //! Command lines and what they are.
 
-use pg_commands_words::{Command, command};
+use pg_commands_words::{Command, RecordingWay, command};
 use std::alloc::{AllocError, Global};
 use std::test::Fail;
 
@@ -101,7 +101,7 @@ fn how_many_numbers(rt: HostRuntime) -> Result<(), Fail> {
 
 #[test]
 fn sessions(rt: HostRuntime) -> Result<(), Fail> {
-    let rows: [(&[&str], Option<(&str, u32)>); 22] = [
+    let rows: [(&[&str], Option<(&str, u32)>); 26] = [
         (&["serve", "x"], Some(("x", 100))),
         (&["serve", "x", "--quantum", "10"], Some(("x", 10))),
         (&["serve", "--quantum=10", "x"], Some(("x", 10))),
@@ -120,17 +120,21 @@ fn sessions(rt: HostRuntime) -> Result<(), Fail> {
         (&["serve", "x", "--quantum", "0"], None),
         (&["serve", "x", "--quantum", "-"], None),
         (&["serve", "x", "--quantum", "1", "--quantum", "1"], None),
-        (&["serve", "x", "--free"], None),
-        (&["serve", "x", "--book", "y"], None),
         (&["serve", "x", "-q"], None),
-        (&["book", "x"], None),
+        (&["serve", "--quantum=", "x"], None),
+        (&["serve", "x", "--quantum=5x"], None),
+        (&["serve", "x", "--quantums", "5"], None),
+        (&["Serve", "x"], None),
+        (&["server", "x"], None),
     ];
     for (words, want) in rows {
         let words = texts(rt.alloc(), words)?;
         let found = command(rt.alloc(), &words)?;
         match &found {
             Some(Command::Serve(serve)) => {
-                assert_eq!(rt; Some((serve.file.as_str(), serve.quantum)), want)
+                let want = want.map(|(file, quantum)| (file, RecordingWay::Rotating(quantum)));
+                assert_eq!(rt; Some((serve.file.as_str(), serve.way)), want);
+                assert!(rt; serve.book.is_none() && !serve.only && !serve.json);
             }
             Some(_) => assert!(rt; false),
             None => assert!(rt; want.is_none()),
@@ -160,14 +164,155 @@ fn shows(rt: HostRuntime) -> Result<(), Fail> {
         let found = command(rt.alloc(), &words)?;
         match &found {
             Some(Command::Show(show)) => {
+                let want = want.map(|(file, quantum, numbers)| {
+                    (file, RecordingWay::Rotating(quantum), numbers)
+                });
                 assert_eq!(rt;
-                    Some((show.file.as_str(), show.quantum, show.numbers.as_slice())),
+                    Some((show.file.as_str(), show.way, show.numbers.as_slice())),
                     want
                 )
             }
             Some(_) => assert!(rt; false),
             None => assert!(rt; want.is_none()),
         }
+    }
+    Ok(())
+}
+
+// The way of recording of the session that words are, if they are one.
+fn session_way(alloc: Global, words: &[&str]) -> Result<Option<RecordingWay>, AllocError> {
+    let words = texts(alloc, words)?;
+    match command(alloc, &words)? {
+        Some(Command::Serve(serve)) => Ok(Some(serve.way)),
+        _ => Ok(None),
+    }
+}
+
+#[test]
+fn ways_of_a_session(rt: HostRuntime) -> Result<(), Fail> {
+    let rows: [(&[&str], Option<RecordingWay>); 32] = [
+        (&["serve", "--free", "x"], Some(RecordingWay::Free)),
+        (&["serve", "x", "--free"], Some(RecordingWay::Free)),
+        (&["serve", "x", "--free", "--"], Some(RecordingWay::Free)),
+        (&["serve", "--free", "--", "x"], Some(RecordingWay::Free)),
+        (&["serve", "--seed", "7", "x"], Some(RecordingWay::Seeded(7))),
+        (&["serve", "x", "--seed", "0"], Some(RecordingWay::Seeded(0))),
+        (&["serve", "x", "--seed=007"], Some(RecordingWay::Seeded(7))),
+        (
+            &["serve", "--seed=18446744073709551615", "x"],
+            Some(RecordingWay::Seeded(u64::MAX)),
+        ),
+        (&["serve", "--seed=18446744073709551616", "x"], None),
+        (&["serve", "x", "--seed"], None),
+        (&["serve", "--seed", "x"], None),
+        (&["serve", "x", "--seed="], None),
+        (&["serve", "x", "--seed", "-1"], None),
+        (&["serve", "x", "--seed=-1"], None),
+        (&["serve", "x", "--seed", "+1"], None),
+        (&["serve", "x", "--seed", "1x"], None),
+        (&["serve", "x", "--seed", "1", "--seed", "1"], None),
+        (&["serve", "x", "--seed=1", "--seed=1"], None),
+        (&["serve", "x", "--free", "--free"], None),
+        (&["serve", "x", "--free="], None),
+        (&["serve", "x", "--free=true"], None),
+        (&["serve", "x", "-free"], None),
+        (&["serve", "x", "--freely"], None),
+        (&["serve", "--free"], None),
+        (&["--free", "serve", "x"], None),
+        (&["serve", "x", "--", "--free"], None),
+        // they exclude one another
+        (&["serve", "x", "--free", "--quantum", "5"], None),
+        (&["serve", "--quantum=100", "x", "--free"], None),
+        (&["serve", "x", "--free", "--seed", "5"], None),
+        (&["serve", "--seed=5", "--free", "x"], None),
+        (&["serve", "--seed=5", "--quantum=5", "x"], None),
+        (
+            &["serve", "--free", "--seed=5", "--quantum=5", "x"],
+            None,
+        ),
+    ];
+    for (words, want) in rows {
+        assert_eq!(rt; session_way(rt.alloc(), words)?, want);
+    }
+    Ok(())
+}
+
+#[test]
+fn ways_of_a_show(rt: HostRuntime) -> Result<(), Fail> {
+    let rows: [(&[&str], Option<(&str, RecordingWay, &[i64])>); 16] = [
+        (&["show", "--free", "x", "1"], Some(("x", RecordingWay::Free, &[1]))),
+        (&["show", "x", "--free"], Some(("x", RecordingWay::Free, &[]))),
+        (&["show", "x", "1", "--free", "2"], Some(("x", RecordingWay::Free, &[1, 2]))),
+        (&["show", "--seed", "3", "4", "5"], Some(("4", RecordingWay::Seeded(3), &[5]))),
+        (
+            &["show", "x", "--seed=3", "--", "-5"],
+            Some(("x", RecordingWay::Seeded(3), &[-5])),
+        ),
+        (&["show", "--free"], None),
+        (&["show", "--free", "--free", "x"], None),
+        (&["show", "--free", "--quantum", "5", "x"], None),
+        (&["show", "--free", "--seed", "5", "x"], None),
+        (&["show", "--quantum", "5", "--seed", "5", "x"], None),
+        (&["show", "x", "--seed"], None),
+        (&["show", "x", "--book", "y"], None),
+        (&["show", "x", "--book=y"], None),
+        (&["show", "x", "--only"], None),
+        (&["show", "x", "--json"], None),
+        (&["show", "x", "--", "--free"], None),
+    ];
+    for (words, want) in rows {
+        let words = texts(rt.alloc(), words)?;
+        let found = command(rt.alloc(), &words)?;
+        match &found {
+            Some(Command::Show(show)) => {
+                assert_eq!(rt; Some((show.file.as_str(), show.way, show.numbers.as_slice())), want)
+            }
+            Some(_) => assert!(rt; false),
+            None => assert!(rt; want.is_none()),
+        }
+    }
+    Ok(())
+}
+
+// Words that are no command of the program, or none yet.
+#[test]
+fn words_that_are_not_offered(rt: HostRuntime) -> Result<(), Fail> {
+    let rows: [&[&str]; 31] = [
+        &["serve", "x", "--book", "y"],
+        &["serve", "--book=y", "x"],
+        &["serve", "x", "--book="],
+        &["serve", "x", "--book", ""],
+        &["serve", "x", "--book", "-"],
+        &["serve", "x", "--book"],
+        &["serve", "x", "--book", "y", "--book", "y"],
+        &["serve", "x", "--only"],
+        &["serve", "x", "--book", "y", "--only"],
+        &["serve", "x", "--book", "y", "--only", "--free"],
+        &["serve", "x", "--book", "y", "--only", "--seed=1"],
+        &["serve", "x", "--book", "y", "--only", "--quantum=1"],
+        &["serve", "x", "--json"],
+        &["serve", "x", "--json", "--json"],
+        &["book", "x"],
+        &["book", "x", "--free"],
+        &["book", "x", "--book", "y"],
+        &["book"],
+        &["conditions", "x"],
+        &["conditions", "x", "1", "--seed=1"],
+        &["conditions"],
+        &["once", "--free"],
+        &["once", "--seed", "1"],
+        &["once", "--book=y"],
+        &["once", "--only"],
+        &["once", "--json"],
+        &["trial", "7", "--free"],
+        &["trial", "7", "--seed=1"],
+        &["trial", "7", "--book=y"],
+        &["trial", "7", "--only"],
+        &["trial", "7", "--json"],
+    ];
+    for words in rows {
+        let words = texts(rt.alloc(), words)?;
+        assert!(rt; command(rt.alloc(), &words)?.is_none());
     }
     Ok(())
 }
