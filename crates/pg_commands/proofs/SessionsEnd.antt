@@ -42,8 +42,12 @@ pub done_rounds : (s : Subject) (first : Kept EntryParts) (source : SourceChange
     → before.recordings ≡ crew.rounds_before → crew.rounds_after ≡ after.recordings
     → OnOk ended (Counted s first source sink before after)
     → OnOk ended (HasBytes source.rest_before (ServesMaking (rounds_told crew) s.program s.way first sink.taken_before sink.taken_after))
-done_rounds s first source sink before after crew (Ok done) b a d = (d.0, d.1, record {
-  all = d.2.all;
-  makes = subst (λ (n : ℕ). RoseBy _ n crew.rounds_after) b (subst (λ (n : ℕ). RoseBy _ before.recordings n) (sym a) d.2.counted.recordings_rose);
-})
+done_rounds s first source sink before after crew (Ok done) b a d = (
+  d.0,
+  d.1,
+  record {
+    all = d.2.all;
+    makes = subst (λ (n : ℕ). RoseBy _ n crew.rounds_after) b (subst (λ (n : ℕ). RoseBy _ before.recordings n) (sym a) d.2.counted.recordings_rose);
+  },
+)
 done_rounds s first source sink before after crew (Err fault) b a d = tt

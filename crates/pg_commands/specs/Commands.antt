@@ -1,5 +1,5 @@
 -- What each command writes, and with which status it ends.
-use Rattle.std.specs.Prelude.{◌≡◌, ℕ, ℤ, ◌<◌, ◌≤◌, ◌+◌, ◌⊎◌, All, Any, false, List, [], ◌∷◌, count_by, length, Option, None, IfSome}
+use Rattle.std.specs.Prelude.{◌≡◌, ℕ, ℤ, ◌<◌, ◌≤◌, ◌+◌, ◌⊎◌, All, Any, Bool, List, [], ◌∷◌, count_by, length, Option, IfSome}
 use Rattle.std.specs.Io.KnownBytes.{Appends}
 use Rattle.pg_num.specs.declared.limits.TheConstants.{PROGRAM_TEXT_LIMIT, SESSION_INPUT_LIMIT}
 use Rattle.pg_ir.specs.Program.{NumberedProgram}
@@ -337,4 +337,4 @@ pub data Ends (w : World) (words : List Word) (status : Status) : Type 0 where
 
 -- the words are a session
 abbrev pub IsSession : List Word → Type 0
-IsSession words = (file : Word) × (way : RecordingWay) × Means words (serve file way None false false)
+IsSession words = (file : Word) × (way : RecordingWay) × (named : Option Word) × (only : Bool) × (json : Bool) × Means words (serve file way named only json)

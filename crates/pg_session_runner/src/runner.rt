@@ -1,12 +1,11 @@
 //! The program that a session runs, by the way in which its inputs are recorded.
 
-use crate::along::{own_input_is_small, ran};
-use crate::laws::each_entry_serves_what_it_admits;
+use crate::along::ran_along;
 use crate::recording::{recorded_freely, recorded_in_rotation};
 use pg_free::FreeCrew;
 use pg_ir::Program;
 use pg_law_reuse::Entry;
-use pg_session::{Recording, Run, Runner, turns_of};
+use pg_session::{Recording, Run, Runner};
 use std::alloc::{AllocError, Global};
 use std::marker::Model;
 use std::sync::Wait;
@@ -85,11 +84,7 @@ impl<'a> Runner for ProgramRunner<'a> {
         entry: &Entry,
         input: &[i64],
     ) -> Result<Run, AllocError> {
-        each_entry_serves_what_it_admits();
-        own_input_is_small(entry);
-        let run = ran(alloc, self.program, entry, input)?;
-        self.turns = self.turns.saturating_add(turns_of(Some(run.end)));
-        Ok(run)
+        ran_along(alloc, self.program, entry, input, &mut self.turns)
     }
 }
 
@@ -172,10 +167,6 @@ impl<'a, G: FreeCrew + Drop> Runner for FreeRunner<'a, G> {
         entry: &Entry,
         input: &[i64],
     ) -> Result<Run, AllocError> {
-        each_entry_serves_what_it_admits();
-        own_input_is_small(entry);
-        let run = ran(alloc, self.program, entry, input)?;
-        self.turns = self.turns.saturating_add(turns_of(Some(run.end)));
-        Ok(run)
+        ran_along(alloc, self.program, entry, input, &mut self.turns)
     }
 }
