@@ -152,3 +152,8 @@ module _ (w : World) (file : Word) (way : RecordingWay) (named : Option Word) (o
         → SessionEnds (MakesRounds way w.crew) p (way_of way) first w.source w.sink r → EndsAs w session (session_status r)
     serve_ended first r is f fetches crew h =
         ended r f fetches crew (subst (λ (k : Kept EntryParts). SessionEnds (MakesRounds way w.crew) p (way_of way) k w.source w.sink r) is h)
+
+-- the words choose this way
+pub serve_by : (w : World) (file : Word) (way own : RecordingWay) (named : Option Word) (only json : Bool) (status : Status) → way ≡ own
+    → EndsAs w (serve file own named only json) status → EndsAs w (serve file way named only json) status
+serve_by w file way own named only json status same h = subst (λ (v : RecordingWay). EndsAs w (serve file v named only json) status) (sym same) h

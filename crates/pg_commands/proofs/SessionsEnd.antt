@@ -1,6 +1,6 @@
 -- How a session of a program ends, by what its runner tells.
-use Rattle.std.proofs.Common.{◌≡◌, refl, sym, subst, ℕ, ◌≤◌, ◌⊎◌, ap, List}
-use Rattle.std.specs.Prelude.{Err, IsErrOf, Ok, OnOk, Result}
+use Rattle.std.proofs.Common.{◌≡◌, sym, subst, ℕ}
+use Rattle.std.specs.Prelude.{Err, Ok, OnOk, Result}
 use Rattle.pg_cache.specs.Kept.{Kept}
 use Rattle.pg_ir.specs.Program.{NumberedProgram}
 use Rattle.pg_session.specs.Counts.{Counts, RoseBy, ServesCounted, told}
@@ -8,16 +8,34 @@ use Rattle.pg_session.specs.Texts.{HasBytes}
 use Rattle.pg_session.specs.declared.fault.ServeFault.{ServeFault}
 use Rattle.pg_session_runner.specs.Entries.{EntryParts}
 use Rattle.pg_session_runner.specs.Runs.{Subject, Way, entry_admits, runs_by}
-use Rattle.pg_commands.specs.Commands.{CrewChange, ServesMaking, SinkChange, SourceChange}
+use Rattle.pg_commands.specs.Commands.{CrewChange, ServesMaking, SinkChange, SourceChange, recordings_of}
 use Rattle.pg_commands.specs.Sessions.{SessionEnds, nothing_told, rounds_told}
+
+-- what a session that is done tells
+abbrev Done : (ℕ → Type 0) → NumberedProgram → Way → Kept EntryParts → SourceChange → SinkChange → Result (Unit {0}) ServeFault → Type 0
+Done Makes p way first source sink ended = OnOk ended (HasBytes source.rest_before (ServesMaking Makes p way first sink.taken_before sink.taken_after))
+
+done_telling : (A B : ℕ → Type 0) (p : NumberedProgram) (way : Way) (first : Kept EntryParts) (source : SourceChange) (sink : SinkChange) (ended : Result (Unit {0}) ServeFault)
+    → ((n : ℕ) → A n → B n) → Done A p way first source sink ended → Done B p way first source sink ended
+done_telling A B p way first source sink (Ok done) f d = (d.0, d.1, record { all = d.2.all; makes = f (recordings_of d.2.all.serves.session.answers) d.2.makes })
+done_telling A B p way first source sink (Err fault) f d = tt
 
 -- the session tells less of its recordings
 pub ends_telling : (A B : ℕ → Type 0) (p : NumberedProgram) (way : Way) (first : Kept EntryParts) (source : SourceChange) (sink : SinkChange) (ended : Result (Unit {0}) ServeFault)
     → ((n : ℕ) → A n → B n) → SessionEnds A p way first source sink ended → SessionEnds B p way first source sink ended
-ends_telling A B p way first source sink (Ok done) f h = record h {
-  done = let d = h.done in (d.0, d.1, record { all = d.2.all; makes = f _ d.2.makes });
+ends_telling A B p way first source sink ended f h = record {
+  done = done_telling A B p way first source sink ended f h.done;
+  input_limit = h.input_limit;
+  read_fault = h.read_fault;
+  write_fault = h.write_fault;
+  out_of_memory = h.out_of_memory;
+  read_cause = h.read_cause;
+  read_within = h.read_within;
+  read_count = h.read_count;
+  write_cause = h.write_cause;
+  write_count = h.write_count;
+  takes = h.takes;
 }
-ends_telling A B p way first source sink (Err fault) f h = record h { done = tt }
 
 -- the runner runs this program, and records so
 pub ends_of : (Makes : ℕ → Type 0) (s : Subject) (p : NumberedProgram) (way : Way) (first : Kept EntryParts) (source : SourceChange) (sink : SinkChange) (ended : Result (Unit {0}) ServeFault)
@@ -33,7 +51,7 @@ Counted s first source sink before after =
 -- what a session that is done tells, and nothing of its recordings
 pub done_plain : (s : Subject) (first : Kept EntryParts) (source : SourceChange) (sink : SinkChange) (before after : Counts) (ended : Result (Unit {0}) ServeFault)
     → OnOk ended (Counted s first source sink before after)
-    → OnOk ended (HasBytes source.rest_before (ServesMaking nothing_told s.program s.way first sink.taken_before sink.taken_after))
+    → Done nothing_told s.program s.way first source sink ended
 done_plain s first source sink before after (Ok done) d = (d.0, d.1, record { all = d.2.all; makes = tt })
 done_plain s first source sink before after (Err fault) d = tt
 
@@ -41,7 +59,7 @@ done_plain s first source sink before after (Err fault) d = tt
 pub done_rounds : (s : Subject) (first : Kept EntryParts) (source : SourceChange) (sink : SinkChange) (before after : Counts) (crew : CrewChange) (ended : Result (Unit {0}) ServeFault)
     → before.recordings ≡ crew.rounds_before → crew.rounds_after ≡ after.recordings
     → OnOk ended (Counted s first source sink before after)
-    → OnOk ended (HasBytes source.rest_before (ServesMaking (rounds_told crew) s.program s.way first sink.taken_before sink.taken_after))
+    → Done (rounds_told crew) s.program s.way first source sink ended
 done_rounds s first source sink before after crew (Ok done) b a d = (
   d.0,
   d.1,

@@ -5,6 +5,9 @@ use pg_free::Free;
 use pg_io::{MemoryShelf, MemorySink, MemorySource};
 use std::alloc::{AllocError, Global};
 use std::fs;
+use std::rt::Files;
+use std::sync::Wait;
+use std::thread::Threads;
 
 /// The most bytes that a row writes.
 const ROOM: usize = 65_536;
@@ -22,8 +25,8 @@ fn words_of(alloc: Global, line: &str) -> Result<Vec<String>, AllocError> {
 }
 
 /// The status of the command whose words these are, with this shelf and this source, and what it writes.
-pub(crate) fn outcome(
-    rt: &HostRuntime,
+pub(crate) fn outcome<R: Threads + Wait + Sync + Print + Files + Alloc>(
+    rt: &R,
     line: &str,
     mut shelf: MemoryShelf,
     mut src: MemorySource,
@@ -44,7 +47,10 @@ pub(crate) fn outcome(
 }
 
 /// The files of these names, one behind the other.
-pub(crate) fn joined(rt: &HostRuntime, names: &str) -> Result<Vec<u8>> {
+pub(crate) fn joined<R: Threads + Wait + Sync + Print + Files + Alloc>(
+    rt: &R,
+    names: &str,
+) -> Result<Vec<u8>> {
     let mut text = Vec::new(rt.alloc());
     for name in names.split_whitespace() {
         let file = fs::read(rt, name)?;
@@ -53,7 +59,10 @@ pub(crate) fn joined(rt: &HostRuntime, names: &str) -> Result<Vec<u8>> {
     Ok(text)
 }
 
-pub(crate) fn print_bytes(rt: &HostRuntime, bytes: &[u8]) -> Result<()> {
+pub(crate) fn print_bytes<R: Threads + Wait + Sync + Print + Files + Alloc>(
+    rt: &R,
+    bytes: &[u8],
+) -> Result<()> {
     match str::from_utf8(bytes) {
         Ok(text) => print!(rt; "{text}")?,
         Err(_) => println!(rt; "bytes that are no text")?,

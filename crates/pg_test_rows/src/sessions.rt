@@ -10,6 +10,9 @@ use pg_io::{MemoryShelf, MemorySource};
 use pg_num::limits::{LINE_LIMIT, PROGRAM_TEXT_LIMIT};
 use std::alloc::{AllocError, Global};
 use std::fs;
+use std::rt::Files;
+use std::sync::Wait;
+use std::thread::Threads;
 
 /// The most bytes of one read.
 const PIECE: usize = 4096;
@@ -36,8 +39,8 @@ fn slow_source(alloc: Global, input: &[u8], failing: &[u64]) -> Result<MemorySou
 }
 
 /// The status of the command whose words these are, with this program text and this source, and what it writes.
-fn answer(
-    rt: &HostRuntime,
+fn answer<R: Threads + Wait + Sync + Print + Files + Alloc>(
+    rt: &R,
     line: &str,
     text: &[u8],
     src: MemorySource,
@@ -46,8 +49,8 @@ fn answer(
 }
 
 /// Runs a command line, and prints what comes of it, under a title. Says so where reads of one byte give something else.
-fn print_outcome(
-    rt: &HostRuntime,
+fn print_outcome<R: Threads + Wait + Sync + Print + Files + Alloc>(
+    rt: &R,
     title: &str,
     line: &str,
     text: &[u8],
@@ -67,7 +70,12 @@ fn print_outcome(
 }
 
 /// Runs a row: its words, its files and its input.
-fn print_row(rt: &HostRuntime, row: &str, line: &str, rest: &str) -> Result<()> {
+fn print_row<R: Threads + Wait + Sync + Print + Files + Alloc>(
+    rt: &R,
+    row: &str,
+    line: &str,
+    rest: &str,
+) -> Result<()> {
     let Some((names, lines)) = rest.split_once(" |") else {
         println!(rt; "no row: {row}")?;
         return Ok(());
@@ -78,7 +86,10 @@ fn print_row(rt: &HostRuntime, row: &str, line: &str, rest: &str) -> Result<()> 
 }
 
 /// Whether `serve` answers anything else on a front of the text than that the program ran or was refused.
-fn has_other_front(rt: &HostRuntime, text: &[u8]) -> Result<bool, AllocError> {
+fn has_other_front<R: Threads + Wait + Sync + Print + Files + Alloc>(
+    rt: &R,
+    text: &[u8],
+) -> Result<bool, AllocError> {
     for len in 0..text.len() {
         let src = source_of(rt.alloc(), b"\n")?;
         let (status, _) = answer(rt, "serve x", &text[..len], src)?;
@@ -91,8 +102,8 @@ fn has_other_front(rt: &HostRuntime, text: &[u8]) -> Result<bool, AllocError> {
 
 /// The status of `serve` of the program text `text` over these lines, where the reads of these numbers fail, and what it
 /// writes. A read takes one byte.
-fn served(
-    rt: &HostRuntime,
+fn served<R: Threads + Wait + Sync + Print + Files + Alloc>(
+    rt: &R,
     text: &[u8],
     lines: &[u8],
     failing: &[u64],
@@ -106,7 +117,12 @@ fn served(
 }
 
 /// Prints a status and what was written, with `/` for a line feed.
-fn print_served(rt: &HostRuntime, title: &str, status: Status, written: &[u8]) -> Result<()> {
+fn print_served<R: Threads + Wait + Sync + Print + Files + Alloc>(
+    rt: &R,
+    title: &str,
+    status: Status,
+    written: &[u8],
+) -> Result<()> {
     let code = status.code();
     match str::from_utf8(written) {
         Ok(text) => {
@@ -128,7 +144,12 @@ fn front(bytes: &[u8], len: usize) -> &[u8] {
 }
 
 /// Serves the lines where the source ends behind so many bytes, and where the read behind them fails.
-fn print_cut(rt: &HostRuntime, text: &[u8], lines: &[u8], len: usize) -> Result<()> {
+fn print_cut<R: Threads + Wait + Sync + Print + Files + Alloc>(
+    rt: &R,
+    text: &[u8],
+    lines: &[u8],
+    len: usize,
+) -> Result<()> {
     let (status, written) = served(rt, text, front(lines, len), &[])?;
     print_served(rt, "the source ends", status, written.as_slice())?;
     let (status, written) = served(rt, text, lines, &[len as u64])?;
@@ -136,7 +157,11 @@ fn print_cut(rt: &HostRuntime, text: &[u8], lines: &[u8], len: usize) -> Result<
 }
 
 /// Prints what comes of each prefix of the lines.
-fn print_cuts(rt: &HostRuntime, text: &[u8], lines: &[u8]) -> Result<()> {
+fn print_cuts<R: Threads + Wait + Sync + Print + Files + Alloc>(
+    rt: &R,
+    text: &[u8],
+    lines: &[u8],
+) -> Result<()> {
     for len in 0..lines.len() + 1 {
         println!(rt; "{len} bytes")?;
         print_cut(rt, text, lines, len)?;
@@ -146,8 +171,8 @@ fn print_cuts(rt: &HostRuntime, text: &[u8], lines: &[u8]) -> Result<()> {
 
 /// Whether a failed read behind `len` bytes leaves anything else than the replies to the first `end` bytes, or these aren't a
 /// front of the replies `whole`.
-fn cut_differs(
-    rt: &HostRuntime,
+fn cut_differs<R: Threads + Wait + Sync + Print + Files + Alloc>(
+    rt: &R,
     text: &[u8],
     lines: &[u8],
     end: usize,
@@ -166,7 +191,11 @@ fn cut_differs(
 
 /// Whether, at some prefix of the lines, a failed read behind it leaves anything else than the replies to the lines that end in
 /// it, or these aren't a front of the replies to all lines.
-fn has_other_cut(rt: &HostRuntime, text: &[u8], lines: &[u8]) -> Result<bool, AllocError> {
+fn has_other_cut<R: Threads + Wait + Sync + Print + Files + Alloc>(
+    rt: &R,
+    text: &[u8],
+    lines: &[u8],
+) -> Result<bool, AllocError> {
     let (_, whole) = served(rt, text, lines, &[])?;
     let mut end: usize = 0;
     for len in 0..lines.len() + 1 {
@@ -197,7 +226,7 @@ fn padded(
 }
 
 /// Lines at the limit of a line, and texts that are longer than a program may be.
-fn print_limits(rt: &HostRuntime) -> Result<()> {
+fn print_limits<R: Threads + Wait + Sync + Print + Files + Alloc>(rt: &R) -> Result<()> {
     let alloc = rt.alloc();
     let sum = joined(rt, "known.ll sum.ll")?;
     let lines = padded(
@@ -228,7 +257,7 @@ fn print_limits(rt: &HostRuntime) -> Result<()> {
 }
 
 /// Serves each prefix of some lines.
-fn print_prefixes(rt: &HostRuntime) -> Result<()> {
+fn print_prefixes<R: Threads + Wait + Sync + Print + Files + Alloc>(rt: &R) -> Result<()> {
     let text = joined(rt, "known.ll sum.ll")?;
     print_cuts(rt, text.as_slice(), b"1 2\n3 4\n5")?;
     let text = joined(rt, "known.ll counted.ll")?;
@@ -242,7 +271,9 @@ fn print_prefixes(rt: &HostRuntime) -> Result<()> {
 }
 
 /// Prints what comes of the sessions.
-pub(crate) fn print_sessions(rt: &HostRuntime) -> Result<()> {
+pub(crate) fn print_sessions<R: Threads + Wait + Sync + Print + Files + Alloc>(
+    rt: &R,
+) -> Result<()> {
     let rows = fs::read_to_string(rt, "sessions.txt")?;
     for row in rows.lines() {
         match row.split_once(" < ") {

@@ -1,9 +1,7 @@
-use Rattle.std.proofs.Common.{inl, inr, refl, subst, sym}
-use Rattle.pg_commands_words.specs.Commands.{IsWay, serve}
-use Rattle.pg_commands_words.specs.declared.commands.RecordingWay.{RecordingWay}
-use Rattle.pg_commands.specs.Commands.{EndsAs}
+use Rattle.std.proofs.Common.{inl, inr, refl, subst}
+use Rattle.pg_commands_words.specs.Commands.{IsWay}
 use Rattle.pg_commands.proofs.CommandEnds.{stayed, takes_none}
-use Rattle.pg_commands.proofs.ServeEnds.{serve_ended, serve_line}
+use Rattle.pg_commands.proofs.ServeEnds.{serve_by, serve_ended, serve_line}
 use Rattle.pg_commands.proofs.SessionsEnd.{ends_telling}
 use Rattle.pg_commands.proofs.serve.serve.Goals as goal
 
@@ -22,7 +20,7 @@ serve_in_rotation-requires-clause-most g c = (subst IsWay c.in-Rotating.is c.req
 pub returns-in-Rotating-clause-ends : goal.returns-in-Rotating-clause-ends
 returns-in-Rotating-clause-ends g c =
     let loaded = rw c.as_str.ensures.value at (rw c.in-Ok-Accepted.field-0-is at c.in-Ok-Accepted.ensures.loaded) in
-    subst (λ (v : RecordingWay). EndsAs _ (serve _ v _ _ _) _) (sym c.in-Rotating.is)
+    serve_by _ _ _ _ _ _ _ _ c.in-Rotating.is
     (rw c.status_of.ensures (serve_ended _ _ _ _ _ _ c.in-Ok-Accepted.program c.in-Ok.first _ c.in-Ok.ensures (loaded.0, loaded.1, loaded.2.0)
     (λ name. stayed _ _ _ (λ e. cc) (c.in-Ok-Accepted.ensures.counts name)) (inr refl)
     (ends_telling _ _ _ _ _ _ _ _ (λ n h. h) c.serve_in_rotation.ensures)))
@@ -30,7 +28,7 @@ returns-in-Rotating-clause-ends g c =
 pub returns-in-Free-clause-ends : goal.returns-in-Free-clause-ends
 returns-in-Free-clause-ends g c =
     let loaded = rw c.as_str.ensures.value at (rw c.in-Ok-Accepted.field-0-is at c.in-Ok-Accepted.ensures.loaded) in
-    subst (λ (v : RecordingWay). EndsAs _ (serve _ v _ _ _) _) (sym c.in-Free.is)
+    serve_by _ _ _ _ _ _ _ _ c.in-Free.is
     (rw c.status_of.ensures (serve_ended _ _ _ _ _ _ c.in-Ok-Accepted.program c.in-Ok.first _ c.in-Ok.ensures (loaded.0, loaded.1, loaded.2.0)
     (λ name. stayed _ _ _ (λ e. cc) (c.in-Ok-Accepted.ensures.counts name)) (inl tt)
     (ends_telling _ _ _ _ _ _ _ _ (λ n h. h) c.serve_freely.ensures)))
@@ -38,7 +36,7 @@ returns-in-Free-clause-ends g c =
 pub returns-in-Seeded-clause-ends : goal.returns-in-Seeded-clause-ends
 returns-in-Seeded-clause-ends g c =
     let loaded = rw c.as_str.ensures.value at (rw c.in-Ok-Accepted.field-0-is at c.in-Ok-Accepted.ensures.loaded) in
-    subst (λ (v : RecordingWay). EndsAs _ (serve _ v _ _ _) _) (sym c.in-Seeded.is)
+    serve_by _ _ _ _ _ _ _ _ c.in-Seeded.is
     (rw c.status_of.ensures (serve_ended _ _ _ _ _ _ c.in-Ok-Accepted.program c.in-Ok.first _ c.in-Ok.ensures (loaded.0, loaded.1, loaded.2.0)
     (λ name. stayed _ _ _ (λ e. cc) (c.in-Ok-Accepted.ensures.counts name)) (inr refl)
     (ends_telling _ _ _ _ _ _ _ _ (λ n h. tt) c.serve_freely.ensures)))
