@@ -2,12 +2,12 @@
 ghost use Rattle.std.specs.Prelude.{◌≡◌, ◌≤◌, ◌<◌, ◌^◌, ℕ, ℤ, List, length, IfOk, OnOk};
 ghost use Rattle.pg_num.specs.declared.limits.TheConstants.{NUMBERS_LIMIT, QUANTUM_LIMIT};
 ghost use Rattle.pg_ir.specs.Program.{NumberedProgram};
-ghost use Rattle.pg_io.specs.Faults.{Rose};
 ghost use Rattle.pg_run_trace.specs.declared.step.Step.{Step};
 ghost use Rattle.pg_run.specs.declared.outcome.Outcome.{Outcome};
 ghost use Rattle.pg_run.specs.State.{State};
 ghost use Rattle.pg_law_runs.specs.Cuts.{CanRun};
 ghost use Rattle.pg_law_reuse.specs.Records.{IsRecord, IsRecordOf};
+ghost use Rattle.pg_session.specs.Counts.{RoseBy};
 ghost use Rattle.pg_session.specs.Recordings.{ComesOfRecording};
 ghost use Rattle.pg_session_runner.specs.Runs.{IsRecordedBy, Way, freely, rotating, runs_by};
 
@@ -92,8 +92,8 @@ pub(crate) fn recorded_freely<H: Threads + Wait + Sync, G: FreeCrew>(
     requires can_run { CanRun p.now input.now }
     requires few { length input.now ≤ NUMBERS_LIMIT }
     ensures gives { IfOk result (ComesOfRecording (runs_by p.now freely) input.now) }
-    ensures rounds { OnOk result (Rose (G.rounds crew.old) (G.rounds crew.new)) }
-    ensures never_falls { G.rounds crew.old ≤ G.rounds crew.new }
+    ensures rounds { OnOk result (RoseBy 1 (G.rounds crew.old) (G.rounds crew.new)) }
+    ensures stays { RoseBy 0 (G.rounds crew.old) (G.rounds crew.new) }
 {
     let recording = free_record(rt, alloc, p, input, crew)?;
     let made = from_recorded(alloc, p, input, recording)?;
