@@ -28,9 +28,10 @@ use std::thread::Threads;
 /// - `trial` and a number up to 9,999 holds a session of the trial's program over 500 lines that the number settles, and
 ///   writes its counts.
 ///
-/// A recording lets threads take their turns in number order. `once`, `serve` and `show` take `--quantum` and the steps of a thread's
-/// turn then, from 1 to 10,000 and 100 without it. In place of it `serve` and `show` take `--free`, so that the given crew records, or
-/// `--seed` and a number below 2^64, so that a generator with this seed picks the thread of each step. A word that begins with `-` stands after `--`. In place of the text, a program text that is refused gives the line
+/// A recording lets threads take their turns in number order. `once`, `serve` and `show` take `--quantum` and the steps of a
+/// thread's turn then, from 1 to 10,000 and 100 without it. In place of it `serve` and `show` take `--free`, so that the given
+/// crew records, or `--seed` and a number below 2^64, so that a generator with this seed picks the thread of each step. A word
+/// that begins with `-` stands after `--`. In place of the text, a program text that is refused gives the line
 /// `program refused L:C NAME` with the line, the column and the name of its first refusal, and behind them the text of a token
 /// that isn't supported.
 ///
