@@ -4,7 +4,7 @@ use Rattle.std.specs.Option.{option_map}
 use Rattle.std.specs.Str.{bytes_eq}
 use Rattle.clap.specs.Walk.{Row, Rule, Text, all_of, first_of}
 use Rattle.clap.specs.Simple.{App, Shape, new_app, new_rule, new_shape, with_rule, with_subcommand}
-use Rattle.clap.specs.declared.builder.action.ArgAction.TheVariants.{Append, SetTrue}
+use Rattle.clap.specs.declared.builder.action.ArgAction.TheVariants.{Append, Set, SetTrue}
 use Rattle.pg_commands_words.specs.Commands.{HasValues, Meaning, Says, name_of}
 use Rattle.pg_commands_words.specs.Pieces.{Given, Word, long_name, takes_value}
 use Rattle.pg_commands_words.specs.declared.matches.Options.{Options}
@@ -13,9 +13,7 @@ use Rattle.pg_commands_words.specs.declared.names.OptionName.{OptionName}
 use Rattle.pg_commands_words.specs.declared.names.OptionName.TheVariants.{Quantum, Seed, Free, Book, Only, Json}
 
 abbrev pub option_rule : OptionName → Rule
-option_rule option =
-    let rule = record (new_rule (long_name option)) { long = Some (long_name option) } in
-    if takes_value option then rule else record rule { action = Some SetTrue }
+option_rule option = record (new_rule (long_name option)) { long = Some (long_name option); action = Some (if takes_value option then Set else SetTrue) }
 
 abbrev pub words_rule : Rule
 words_rule = record (new_rule (codes "words")) { action = Some Append }

@@ -56,7 +56,7 @@ only_fits given = not given.only || (is_some given.book && (not (is_some given.q
 -- a command, with its values
 pub data Meaning : Type 0 where
   once : (quantum : ℕ) → (numbers : List ℤ) → Meaning
-  serve : (file : Word) → (way : RecordingWay) → (book : Option Word) → (only : Bool) → (json : Bool) → Meaning
+  serve : (file : Word) → (way : RecordingWay) → (named : Option Word) → (only : Bool) → (json : Bool) → Meaning
   book : (file : Word) → (way : RecordingWay) → Meaning
   show : (file : Word) → (way : RecordingWay) → (numbers : List ℤ) → Meaning
   conditions : (file : Word) → (way : RecordingWay) → (numbers : List ℤ) → Meaning
@@ -64,7 +64,7 @@ pub data Meaning : Type 0 where
 
 abbrev pub name_of : Meaning → Name
 name_of (once quantum numbers) = names.Once
-name_of (serve file way book only json) = names.Serve
+name_of (serve file way named only json) = names.Serve
 name_of (book file way) = names.Book
 name_of (show file way numbers) = names.Show
 name_of (conditions file way numbers) = names.Conditions
@@ -82,19 +82,19 @@ pub record HasFileAndNumbers (words : List Word) (file : Word) (numbers : List �
   pub has_numbers : HasNumbers texts numbers
 
 -- the options and the file of a session have these values
-pub record HasSession (given : Given) (words : List Word) (file : Word) (chosen : RecordingWay) (book : Option Word) (only json : Bool) : Type 0 where
+pub record HasSession (given : Given) (words : List Word) (file : Word) (chosen : RecordingWay) (named : Option Word) (only json : Bool) : Type 0 where
   pub has_way : chosen_way given ≡ Some chosen
   pub has_file : words ≡ file ∷ []
-  pub has_book : given.book ≡ book
+  pub has_book : given.book ≡ named
   pub is_named : is_book_name given.book ≡ true
   pub has_only : given.only ≡ only
-  pub only_fits : only_fits given ≡ true
+  pub only_stands : only_fits given ≡ true
   pub has_json : given.json ≡ json
 
 -- the options that are given and the positionals have these values
 abbrev pub HasValues : Given → List Word → Meaning → Type 0
 HasValues given words (once quantum numbers) = (chosen_way given ≡ Some (ways.Rotating quantum)) × HasNumbers words numbers
-HasValues given words (serve file way book only json) = HasSession given words file way book only json
+HasValues given words (serve file way named only json) = HasSession given words file way named only json
 HasValues given words (book file way) = (chosen_way given ≡ Some way) × (words ≡ file ∷ [])
 HasValues given words (show file way numbers) = (chosen_way given ≡ Some way) × HasFileAndNumbers words file numbers
 HasValues given words (conditions file way numbers) = (chosen_way given ≡ Some way) × HasFileAndNumbers words file numbers
@@ -112,18 +112,18 @@ pub record IsWritten (words : List Word) (meaning : Meaning) : Type 0 where
   -- before `--`, a word other than `-` that begins with `-` is an option
   pub plain : list_all is_plain line.pieces ≡ true
   -- each option stands there at most once
-  pub once : (o : OptionName) → length (uses_of o line.pieces) ≤ 1
+  pub at_most_once : (o : OptionName) → length (uses_of o line.pieces) ≤ 1
   pub says : Says (given_in line) (positionals_of line) meaning
 
 -- ---- what the program has of these
 
 abbrev pub is_plain_session : Option Word → Bool → Bool → Bool
-is_plain_session book only json = not (is_some book) && (not only && not json)
+is_plain_session named only json = not (is_some named) && (not only && not json)
 
 -- the program has this command, with these values
 abbrev pub is_offered : Meaning → Bool
 is_offered (once quantum numbers) = true
-is_offered (serve file way book only json) = is_plain_session book only json
+is_offered (serve file way named only json) = is_plain_session named only json
 is_offered (book file way) = false
 is_offered (show file way numbers) = true
 is_offered (conditions file way numbers) = false
@@ -161,7 +161,7 @@ IsWay (ways.Seeded seed) = seed < 2 ^ 64
 -- the values are within their limits
 abbrev pub IsWithin : Meaning → Type 0
 IsWithin (once quantum numbers) = (1 ≤ quantum) × (quantum ≤ QUANTUM_LIMIT) × (length numbers ≤ NUMBERS_LIMIT)
-IsWithin (serve file way book only json) = IsWay way
+IsWithin (serve file way named only json) = IsWay way
 IsWithin (book file way) = IsWay way
 IsWithin (show file way numbers) = IsWay way × (length numbers ≤ NUMBERS_LIMIT)
 IsWithin (conditions file way numbers) = IsWay way × (length numbers ≤ NUMBERS_LIMIT)

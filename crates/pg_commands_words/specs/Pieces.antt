@@ -46,14 +46,17 @@ takes_value Book = true
 takes_value Only = false
 takes_value Json = false
 
+-- the options in an order
+abbrev pub place_of : OptionName → ℕ
+place_of Quantum = 0
+place_of Seed = 1
+place_of Free = 2
+place_of Book = 3
+place_of Only = 4
+place_of Json = 5
+
 abbrev pub same_option : OptionName → OptionName → Bool
-same_option Quantum Quantum = true
-same_option Seed Seed = true
-same_option Free Free = true
-same_option Book Book = true
-same_option Only Only = true
-same_option Json Json = true
-same_option _ _ = false
+same_option option other = place_of option == place_of other
 
 -- ---- pieces
 
@@ -68,7 +71,7 @@ abbrev pub words_of_piece : Piece → List Word
 words_of_piece (positional word) = word ∷ []
 words_of_piece (flag option) = option_word option ∷ []
 words_of_piece (apart option value) = option_word option ∷ value ∷ []
-words_of_piece (joined option value) = (option_word option ++ codes "=" ++ value) ∷ []
+words_of_piece (joined option value) = (option_word option ++ (codes "=" ++ value)) ∷ []
 
 -- a positional, and a value that is a word of its own, doesn't begin with `-`; a positional may be `-`
 abbrev pub is_plain : Piece → Bool

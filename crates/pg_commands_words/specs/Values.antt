@@ -1,7 +1,7 @@
 -- The values that words write.
-use Rattle.std.specs.Prelude.{◌≡◌, ℕ, ℤ, Bool, true, false, pos, negsuc, ◌^◌, ◌-◌, ◌&&◌, nat_le, nat_lt, if◌then◌else◌, List, [], ◌∷◌, Option, Some, None}
+use Rattle.std.specs.Prelude.{◌≡◌, ℕ, ℤ, Bool, true, false, pos, negsuc, ◌^◌, ◌-◌, ◌&&◌, nat_le, if◌then◌else◌, List, [], ◌∷◌, Option, Some, None}
 use Rattle.std.specs.Option.{option_map}
-use Rattle.pg_num.specs.Decimal.{are_digits, natural_of, decimal_between}
+use Rattle.pg_num.specs.Decimal.{are_digits, natural_of, decimal_between, digits_up_to}
 use Rattle.pg_num.specs.declared.limits.TheConstants.{QUANTUM_LIMIT}
 use Rattle.pg_session_trial.specs.declared.line.TheConstants.{TRIAL_LIMIT}
 use Rattle.pg_commands_words.specs.Pieces.{Given, Word}
@@ -21,7 +21,7 @@ quantum_of word =
 
 -- a seed: one or more digits, with a value in 64 bits
 abbrev pub seed_of : Word → Option ℕ
-seed_of word = if are_digits word && nat_lt (natural_of word) (2 ^ 64) then Some (natural_of word) else None
+seed_of word = digits_up_to (2 ^ 64 - 1) word
 
 -- the number of a trial: one or more digits, with a value up to the limit
 abbrev pub trial_of : Word → Option ℕ

@@ -53,12 +53,14 @@ fn option<'a>(alloc: Global, name: OptionName) -> Arg<'a>
     ensures rule { rule_of result ≡ option_rule name }
     ensures local { result.global ≡ false }
 {
-    let option = Arg::new(alloc, name.long_name()).long(name.long_name());
-    if name.takes_value() {
-        option
+    let action = if name.takes_value() {
+        ArgAction::Set
     } else {
-        option.action(ArgAction::SetTrue)
-    }
+        ArgAction::SetTrue
+    };
+    Arg::new(alloc, name.long_name())
+        .long(name.long_name())
+        .action(action)
 }
 
 // A command with one more option.
@@ -67,7 +69,7 @@ fn with_option<'a>(
     command: Command<'a>,
     name: OptionName,
 ) -> Result<Command<'a>, AllocError>
-    requires local { (out-Command command.entry).has_globals ≡ false }
+    requires local { (out-Command command).has_globals ≡ false }
     ensures app { IfOk result (λ c. app_of c ≡ with_option name (app_of command.entry)) }
     ensures local { IfOk result (λ c. (out-Command c).has_globals ≡ false) }
 {

@@ -3,7 +3,7 @@ ghost use Rattle.std.specs.Prelude.{◌≡◌, ◌∷◌, [], map, string_bytes,
 ghost use Rattle.std.specs.Option.{option_map};
 ghost use Rattle.clap.specs.Words.{found_of, rows_of, subcommand_rows_of};
 ghost use Rattle.pg_commands_words.specs.Clap.{HasNoValues, HasValuesOf, Reads, ReadsNone, SaysNone, SaysOf, given_of, given_of_rows, words_in};
-ghost use Rattle.pg_commands_words.specs.Commands.{HasFileAndNumbers, HasSession, HasValues, IsCommand, IsWithin, IsWritten, Meaning, NoCommand, are_allowed, book, conditions, fits, meaning_of, once, only_fits, serve, show, trial};
+ghost use Rattle.pg_commands_words.specs.Commands.{HasFileAndNumbers, HasSession, HasValues, IsCommand, IsWithin, IsWritten, Meaning, NoCommand, allows, are_allowed, book, conditions, fits, is_of_a_way, is_quantum, meaning_of, once, only_fits, serve, show, trial};
 ghost use Rattle.pg_commands_words.specs.Pieces.{Given, Word};
 ghost use Rattle.pg_commands_words.specs.declared.commands.RecordingWay.{RecordingWay};
 ghost use Rattle.pg_commands_words.specs.Values.{is_book_name};
@@ -134,22 +134,43 @@ fn command_by_name(
 
 // ---- which options go together
 
+// Whether it is the option of the quantum.
+fn is_quantum(option: OptionName) -> bool
+    ensures { result ≡ is_quantum option }
+{
+    match option {
+        OptionName::Quantum => true,
+        _ => false,
+    }
+}
+
+// Whether the option chooses a way of recording.
+fn is_of_a_way(option: OptionName) -> bool
+    ensures { result ≡ is_of_a_way option }
+{
+    match option {
+        OptionName::Quantum | OptionName::Seed | OptionName::Free => true,
+        OptionName::Book | OptionName::Only | OptionName::Json => false,
+    }
+}
+
+// Whether a command has this option.
+fn allows(name: Name, option: OptionName) -> bool
+    ensures { result ≡ allows name option }
+{
+    match name {
+        Name::Once => is_quantum(option),
+        Name::Serve => true,
+        Name::Book | Name::Show | Name::Conditions => is_of_a_way(option),
+        Name::Trial => false,
+    }
+}
+
 // Whether a command has this option, where it is given.
 fn fits(name: Name, option: OptionName, is_given: bool) -> bool
     ensures { result ≡ fits name option is_given }
 {
-    if !is_given {
-        return true;
-    }
-    match (name, option) {
-        (Name::Serve, _) | (Name::Once, OptionName::Quantum) => true,
-        (Name::Once | Name::Trial, _) => false,
-        (
-            Name::Book | Name::Show | Name::Conditions,
-            OptionName::Quantum | OptionName::Seed | OptionName::Free,
-        ) => true,
-        (Name::Book | Name::Show | Name::Conditions, _) => false,
-    }
+    !is_given || allows(name, option)
 }
 
 // Whether each option that is given is one of the command's.
@@ -239,8 +260,8 @@ fn serve_with(
 ) -> Result<Option<Serve>, AllocError>
     ensures some { IfOk result (λ c. IfSome c (λ c. HasSession (given_of options.now) (map (λ text. text.now) texts.now)
         (string_bytes c.file) c.way (option_map string_bytes c.book) c.only c.json)) }
-    ensures none { IfOk result (λ c. IfNone c ((file : Word) (way : RecordingWay) (book : Option Word) (only json : Bool)
-        → HasSession (given_of options.now) (map (λ text. text.now) texts.now) file way book only json → ⊥)) }
+    ensures none { IfOk result (λ c. IfNone c ((file : Word) (way : RecordingWay) (named : Option Word) (only json : Bool)
+        → HasSession (given_of options.now) (map (λ text. text.now) texts.now) file way named only json → ⊥)) }
 {
     let Some(way) = chosen_way(options) else {
         return Ok(None);

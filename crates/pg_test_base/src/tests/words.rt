@@ -101,7 +101,7 @@ fn how_many_numbers(rt: HostRuntime) -> Result<(), Fail> {
 
 #[test]
 fn sessions(rt: HostRuntime) -> Result<(), Fail> {
-    let rows: [(&[&str], Option<(&str, u32)>); 26] = [
+    let rows: [(&[&str], Option<(&str, u32)>); 24] = [
         (&["serve", "x"], Some(("x", 100))),
         (&["serve", "x", "--quantum", "10"], Some(("x", 10))),
         (&["serve", "--quantum=10", "x"], Some(("x", 10))),
