@@ -12,10 +12,10 @@ returns-in-Ok-Refused-clause-ends g c =
     (rw c.as_str.ensures.value at (rw c.in-Ok-Refused.field-0-is at c.in-Ok-Refused.ensures.loaded)) (rw c.deref.ensures.value at c.write_text.ensures)
 
 pub serve_in_rotation-requires-clause-least : goal.serve_in_rotation-requires-clause-least
-serve_in_rotation-requires-clause-least g c = (subst IsWay c.in-Rotating.is c.requires).0
+serve_in_rotation-requires-clause-least g c = λ _ _. (subst IsWay c.in-Rotating.is c.requires).0
 
 pub serve_in_rotation-requires-clause-most : goal.serve_in_rotation-requires-clause-most
-serve_in_rotation-requires-clause-most g c = (subst IsWay c.in-Rotating.is c.requires).1
+serve_in_rotation-requires-clause-most g c = λ _ _. (subst IsWay c.in-Rotating.is c.requires).1
 
 pub returns-in-Rotating-clause-ends : goal.returns-in-Rotating-clause-ends
 returns-in-Rotating-clause-ends g c =

@@ -7,7 +7,7 @@ use Rattle.pg_commands.proofs.SessionsEnd.{done_rounds, ends_of}
 use Rattle.pg_commands.proofs.serve.serve_freely.Goals as goal
 
 pub serve-ended-requires-clause-stands : goal.serve-ended-requires-clause-stands
-serve-ended-requires-clause-stands g c =
+serve-ended-requires-clause-stands g c = λ _ _.
     subst (λ (v : Way). Stands (runs_by c.new-runner.result.subject.program v) c.args.first) (sym c.new-runner.ensures.way)
     (subst (λ (q : NumberedProgram). Stands (runs_by q freely) c.args.first) (sym c.new-runner.ensures.program) c.requires.stands)
 

@@ -7,7 +7,7 @@ use Rattle.pg_commands.proofs.SessionsEnd.{done_plain, ends_of}
 use Rattle.pg_commands.proofs.serve.serve_in_rotation.Goals as goal
 
 pub serve-requires-clause-stands : goal.serve-requires-clause-stands
-serve-requires-clause-stands g c =
+serve-requires-clause-stands g c = λ _ _.
     subst (λ (v : Way). Stands (runs_by c.new-runner.result.subject.program v) c.args.first) (sym c.new-runner.ensures.way)
     (subst (λ (q : NumberedProgram). Stands (runs_by q (rotating c.args.quantum)) c.args.first) (sym c.new-runner.ensures.program) c.requires.stands)
 
