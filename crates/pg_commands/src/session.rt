@@ -60,7 +60,8 @@ pub fn peregrine<R: Threads + Wait + Sync, S: Source, K: Sink, F: Shelf, G: Free
         Ok(Some(Command::Serve(command))) => serve(rt, alloc, &command, src, shelf, out, free),
         Ok(Some(Command::Show(command))) => show(rt, alloc, &command, shelf, out, free),
         // The program hasn't these two yet, so no words are they.
-        Ok(Some(Command::Book(_) | Command::Conditions(_))) => unreachable!(),
+        Ok(Some(Command::Book(_))) => unreachable!(),
+        Ok(Some(Command::Conditions(_))) => unreachable!(),
         Ok(Some(Command::Trial(number))) => trial(rt, alloc, number, out),
         Ok(None) => Status::Usage,
         Err(_) => Status::OutOfMemory,
