@@ -1,5 +1,5 @@
 //! The command `serve`: a session of a program.
-ghost use Rattle.std.specs.Prelude.{◌≡◌, ◌≤◌, ◌<◌, ◌⊎◌, ◌^◌, ℕ, ℤ, List, length, string_bytes};
+ghost use Rattle.std.specs.Prelude.{◌≡◌, ◌≤◌, ◌<◌, ◌^◌, ℕ, ℤ, List, length, string_bytes};
 ghost use Rattle.std.specs.Option.{option_map};
 ghost use Rattle.pg_num.specs.declared.limits.TheConstants.{CACHE_LIMIT, QUANTUM_LIMIT};
 ghost use Rattle.pg_law_runs.specs.Cuts.{CanRun};

@@ -1,5 +1,5 @@
 -- How the count of a crew's rounds rises.
-use Rattle.std.proofs.Common.{◌≡◌, ℕ, ◌+◌, ◌-◌, ◌^◌, ◌<◌, ◌≤◌, ◌⊎◌, inl, inr, arith}
+use Rattle.std.proofs.Common.{ℕ, ◌≤◌, inl, inr, arith}
 use Rattle.pg_io.specs.Faults.{Rose}
 use Rattle.pg_session.specs.Counts.{RoseBy}
 

@@ -131,7 +131,7 @@ impl<'a, G: FreeCrew + Drop> FreeRunner<'a, G> {
 
     /// The crew, once it recorded what it was asked.
     pub fn into_crew(self) -> G
-        ensures { G.rounds result ≡ self.counts.recordings }
+        ensures { G.rounds result ≡ self.entry.counts.recordings }
     {
         let FreeRunner { crew, .. } = self;
         crew

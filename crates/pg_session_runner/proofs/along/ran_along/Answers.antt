@@ -1,4 +1,4 @@
-use Rattle.std.proofs.Common.{◌<◌, ◌^◌, List, length, arith}
+use Rattle.std.proofs.Common.{◌<◌, ◌^◌, length, arith}
 use Rattle.pg_session_runner.proofs.along.ran_along.Goals as goal
 
 pub ran-requires : goal.ran-requires
