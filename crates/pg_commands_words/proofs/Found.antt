@@ -1,6 +1,6 @@
 -- What the parser finds in a line: it takes it, and has the texts of its options and its positionals.
-use Rattle.std.proofs.Common.{◌≡◌, ◌∙◌, ◌&&◌, Bool, cond, true, false, refl, sym, ap, subst, ◌≤◌, List, [], ◌∷◌, ◌++◌, codes, length, Some, is_some}
-use Rattle.std.specs.List.{fold, list_all}
+use Rattle.std.proofs.Common.{◌≡◌, ◌∙◌, ◌&&◌, true, false, refl, sym, ap, subst, List, [], ◌∷◌, ◌++◌, codes, Some, is_some}
+use Rattle.std.specs.List.{fold}
 use Rattle.clap.specs.Walk.{Names, Row, Text, Walk, idle, nothing_held, settled, walk, walk_from, walked, with_default}
 use Rattle.clap.specs.Simple.{Shape, built, entered, subcommand_of}
 use Rattle.clap.specs.Takes.{entered_passes, level_passes, takes, turn_passes, walk_passes, settle_passes}
@@ -8,7 +8,8 @@ use Rattle.clap.proofs.OnLiterals.{clap_on_literals}
 use Rattle.clap.proofs.WalkLemmas.{walk_stopped}
 use Rattle.pg_commands_words.specs.Clap.{program_app}
 use Rattle.pg_commands_words.specs.Pieces.{Line, Word, positionals_of_end, words_of, words_of_end}
-use Rattle.pg_commands_words.specs.Lines.{IsLine, name_word}
+use Rattle.pg_commands_words.specs.Commands.{name_word}
+use Rattle.pg_commands_words.specs.Lines.{IsLine}
 use Rattle.pg_commands_words.specs.declared.names.Name.{Name}
 use Rattle.pg_commands_words.specs.declared.names.Name.TheVariants.{Once, Serve, Book, Show, Conditions, Trial}
 use Rattle.pg_commands_words.proofs.Lines.{both}

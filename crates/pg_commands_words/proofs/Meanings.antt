@@ -1,12 +1,11 @@
 -- What the parser's matches of a line say is what the line is.
-use Rattle.std.proofs.Common.{◌≡◌, ◌≤◌, ◌<◌, ◌^◌, arith, ◌∙◌, ◌&&◌, ℕ, ℤ, Bool, cond, true, false, refl, sym, ap, subst, List, [], ◌∷◌, map, codes, Option}
+use Rattle.std.proofs.Common.{◌≡◌, ◌≤◌, ◌<◌, ◌^◌, ◌-◌, arith, ◌∙◌, ◌&&◌, ℕ, ℤ, Bool, cond, true, false, refl, sym, ap, subst, List, [], ◌∷◌, map, codes, Option}
 use Rattle.std.proofs.Common.{Some, None, IfSome, IfNone}
-use Rattle.std.specs.List.{list_all}
 use Rattle.std.specs.Option.{option_map}
 use Rattle.std.specs.Str.{bytes_eq}
 use Rattle.std.proofs.lemmas.Slice.Eq.{bytes_eq-Decides}
 use Rattle.std.proofs.lemmas.Bool.{leb-true}
-use Rattle.std.specs.Prelude.{length, nat_le}
+use Rattle.std.specs.Prelude.{nat_le}
 use Rattle.clap.specs.Simple.{subcommand_of}
 use Rattle.clap.specs.Takes.{takes}
 use Rattle.clap.specs.Walk.{Row}
@@ -19,13 +18,16 @@ use Rattle.pg_commands_words.specs.declared.values.TheConstants.{DEFAULT_QUANTUM
 use Rattle.pg_commands_words.specs.declared.names.Name.{Name}
 use Rattle.pg_commands_words.specs.declared.names.Name.TheVariants.{Once, Serve, Book, Show, Conditions, Trial}
 use Rattle.pg_commands_words.specs.Clap.{HasNoValues, HasValuesOf, Reads, ReadsNone, SaysNone, SaysOf, given_of_rows, program_app, words_in}
-use Rattle.pg_commands_words.specs.Commands.{HasFileAndNumbers, HasNumbers, HasSession, HasValues, IsWay, IsWithin, IsWritten, Meaning, Says, are_allowed, name_of, once, serve, book, show, conditions, trial}
-use Rattle.pg_commands_words.specs.Pieces.{Given, Line, Word, given_in, is_plain, positionals_of, uses_of, words_of}
+use Rattle.pg_commands_words.specs.Commands.{HasFileAndNumbers, HasNumbers, HasSession, HasTrial, HasValues, IsWay, IsWithin, IsWritten, Meaning, Means, NoCommand, Says, are_allowed, is_offered, name_of, name_word, once, serve, book, show, conditions, trial}
+use Rattle.pg_commands_words.specs.Pieces.{Given, Word, given_in, positionals_of, words_of}
 use Rattle.pg_commands_words.specs.Values.{chosen_way, number_of, quantum_of, seed_of, trial_of, way_of}
-use Rattle.pg_commands_words.specs.Lines.{IsLine, is_line, name_of_line, name_word, named}
+use Rattle.pg_commands_words.specs.Lines.{IsLine, is_line, name_of_line, named}
 use Rattle.pg_commands_words.proofs.Lines.{line-found, line-passes}
 use Rattle.pg_commands_words.proofs.Rows.{IsFine, given-found, rows_found, words-found}
 use Rattle.pg_commands_words.proofs.Found.{line-rows, line-taken}
+
+false≢true : false ≡ true → ⊥
+false≢true e = cc
 
 -- ---- the name and a line
 
@@ -179,8 +181,8 @@ one-values o ws (conditions f w ns) (conditions d v ms) e g h =
     let b = both-same ws f d ns ms g.1 h.1 in
     rw (b.0, same-way w v (sym g.0 ∙ h.0), b.1) refl
 one-values o ws (trial n) (trial m) e g h =
-    let t = file-same ws g.0 h.0 g.1 h.1 in
-    rw (same-quantum n m (sym g.2 ∙ ap trial_of t ∙ h.2)) refl
+    let t = file-same ws g.text h.text g.has_text h.has_text in
+    rw (same-quantum n m (sym g.has_number ∙ ap trial_of t ∙ h.has_number)) refl
 one-values o ws (once q ns) (serve d v m z k) e g h = absurd cc
 one-values o ws (once q ns) (book d v) e g h = absurd cc
 one-values o ws (once q ns) (show d v ms) e g h = absurd cc
@@ -286,7 +288,7 @@ has-within o ws (serve file way named only json) h = chosen o way h.has_way
 has-within o ws (book file way) h = chosen o way h.0
 has-within o ws (show file way numbers) h = (chosen o way h.0, h.1.has_numbers.few)
 has-within o ws (conditions file way numbers) h = (chosen o way h.0, h.1.has_numbers.few)
-has-within o ws (trial number) h = up-to h.0 TRIAL_LIMIT number h.2
+has-within o ws (trial number) h = up-to h.text TRIAL_LIMIT number h.has_number
 
 -- a command's values are within their limits
 pub within : (words : List Word) (meaning : Meaning) → IsWritten words meaning → IsWithin meaning
@@ -311,7 +313,7 @@ none_of Serve o ws = (file : Word) (way : RecordingWay) (named : Option Word) (o
 none_of Book o ws = (file : Word) (way : RecordingWay) → HasValues o ws (book file way) → ⊥
 none_of Show o ws = (file : Word) (way : RecordingWay) (numbers : List ℤ) → HasValues o ws (show file way numbers) → ⊥
 none_of Conditions o ws = (file : Word) (way : RecordingWay) (numbers : List ℤ) → HasValues o ws (conditions file way numbers) → ⊥
-none_of Trial o ws = (number : ℕ) → HasValues o ws (trial number) → ⊥
+none_of Trial o ws = (number : ℕ) → HasTrial ws number → ⊥
 
 none-by : (o : Given) (ws : List Word) (meaning : Meaning) → none_of (name_of meaning) o ws → HasValues o ws meaning → ⊥
 none-by o ws (once quantum numbers) f h = f quantum numbers h
@@ -332,7 +334,16 @@ pub says-none : (name : Name) (o : Given) (ws : List Word) → HasNoValues name 
 says-none name o ws f meaning h = f meaning (h.0, h.1.has_values)
 
 pub none-allowed : (name : Name) (o : Given) (ws : List Word) → are_allowed name o ≡ false → SaysNone name o ws
-none-allowed name o ws no meaning h = false≢true (sym no ∙ ap (λ n. are_allowed n o) (sym h.0) ∙ h.1.allowed)
-  where
-    false≢true : false ≡ true → ⊥
-    false≢true e = cc
+none-allowed name o ws refused meaning h = false≢true (sym refused ∙ ap (λ n. are_allowed n o) (sym h.0) ∙ h.1.allowed)
+
+-- ---- what the program has of the commands
+
+pub is-command : (words : List Word) (meaning : Meaning) → IsWritten words meaning → is_offered meaning ≡ true → Means words meaning
+is-command words meaning written offered = record { written = written; offered = offered }
+
+pub no-command : (words : List Word) → NothingWritten words → NoCommand words
+no-command words none meaning m = none meaning m.written
+
+pub not-offered : (words : List Word) (meaning : Meaning) → IsWritten words meaning → is_offered meaning ≡ false → NoCommand words
+not-offered words meaning written refused other m =
+    false≢true (sym refused ∙ ap is_offered (one-command words meaning other written m.written) ∙ m.offered)

@@ -1,10 +1,9 @@
 -- The options one by one, and which of them a list of pieces may still have.
-use Rattle.std.proofs.Common.{◌≡◌, ◌⊎◌, inl, inr, ◌≤◌, arith, ℕ, zero, suc, Bool, cond, true, false, refl, sym, ap, subst, List, [], ◌∷◌, length, codes, Option, Some, None, ◌||◌}
+use Rattle.std.proofs.Common.{◌≡◌, ◌⊎◌, inl, inr, ◌≤◌, arith, ℕ, zero, suc, Bool, cond, true, false, refl, sym, ap, subst, List, [], ◌∷◌, length, codes, Some, None, ◌||◌}
 use Rattle.std.specs.List.{cons_option}
-use Rattle.std.specs.Prelude.{◌==◌}
 use Rattle.std.specs.Str.{bytes_eq}
 use Rattle.std.proofs.lemmas.Bool.{eqb-true}
-use Rattle.pg_commands_words.specs.Pieces.{Piece, Word, long_name, place_of, same_option, takes_value, use_of, uses_of}
+use Rattle.pg_commands_words.specs.Pieces.{Piece, Word, long_name, place_of, same_option, use_of, uses_of}
 use Rattle.pg_commands_words.specs.Lines.{has_seen, nothing_seen, seen_more}
 use Rattle.pg_commands_words.specs.declared.names.OptionName.{OptionName}
 use Rattle.pg_commands_words.specs.declared.names.OptionName.TheVariants.{Quantum, Seed, Free, Book, Only, Json}
@@ -212,8 +211,8 @@ fresh-more given after used value pieces grows f = λ o. ((λ h. none o (grows o
     none o (inr before) = rest-none (same_option o used) value (uses_of o pieces) ((f o).0 before)
 
 none-yet : (b : Bool) (value : Word) (values : List Word) → (b ≡ true → ⊥) → values ≡ [] → used_or b value values ≡ []
-none-yet true value values no e = absurd (no refl)
-none-yet false value values no e = e
+none-yet true value values never e = absurd (never refl)
+none-yet false value values never e = e
 
 few-yet : (b : Bool) (value : Word) (values : List Word) → (b ≡ true → values ≡ []) → length values ≤ 1 → length (used_or b value values) ≤ 1
 few-yet true value values none few = let e = none refl in rw e (omega arith)

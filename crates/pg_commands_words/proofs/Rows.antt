@@ -1,6 +1,6 @@
 -- What the rows of a line's uses say: the options that are given and the positionals, in order.
-use Rattle.std.proofs.Common.{◌≡◌, ◌∙◌, ◌||◌, ◌⊎◌, inl, inr, Bool, cond, true, false, not, ◌&&◌, refl, sym, ap, subst, ◌≤◌, List, [], ◌∷◌, ◌++◌, map, codes, length, Option, Some, None, is_some, append_assoc, append-nil}
-use Rattle.std.specs.List.{cons_option, filter_map, find, fold, list_any}
+use Rattle.std.proofs.Common.{◌≡◌, ◌∙◌, ◌||◌, ◌⊎◌, inl, inr, Bool, cond, true, false, not, ◌&&◌, refl, sym, ap, ◌≤◌, List, [], ◌∷◌, ◌++◌, map, codes, length, Option, Some, None, is_some, append_assoc, append-nil}
+use Rattle.std.specs.List.{cons_option, filter_map, find, fold, list_all}
 use Rattle.std.specs.Option.{option_map, option_or, unwrap_or}
 use Rattle.std.specs.Prelude.{option_and_then, slice_get}
 use Rattle.std.specs.Str.{bytes_eq}
@@ -8,8 +8,6 @@ use Rattle.std.proofs.lemmas.Slice.Eq.{bytes_eq-Decides}
 use Rattle.std.proofs.lemmas.List.Folds.{find-append}
 use Rattle.clap.specs.Simple.{filled, with_index}
 use Rattle.clap.specs.Walk.{Row, Rule, at_row, has_row, more_values, reading_by, stronger, used, with_default, without}
-use Rattle.clap.specs.declared.builder.action.ArgAction.TheVariants.{Append, Set, SetTrue}
-use Rattle.clap.specs.declared.builder.value_parser.ValueParser.TheVariants as vp
 use Rattle.clap.specs.declared.parser.matches.ValueSource.{ValueSource}
 use Rattle.clap.specs.declared.parser.matches.ValueSource.TheVariants.{CommandLine, DefaultValue}
 use Rattle.pg_commands_words.specs.Clap.{given_of_rows, is_set, option_rule, text_in, words_in, words_rule}
@@ -25,7 +23,7 @@ false≢true e = cc
 -- ---- the rules of a command as it is built
 
 abbrev pub built_option : OptionName → Rule
-built_option o = filled (option_rule o)
+built_option o = filled (option_rule (long_name o) (takes_value o))
 
 abbrev pub built_words : Rule
 built_words = with_index 1 (filled words_rule)
@@ -130,11 +128,11 @@ pub use-grows : (o p : OptionName) (values : List Word) (rows : List Row) → ha
     → (same_option p o ≡ true) ⊎ (has_option p rows ≡ true)
 use-grows o p values rows none h =
     let n = use-new o values rows none in
-    turn (either-way _ _ (sym (has-append (long_name p) rows n.0) ∙ (ap (has_option p) (sym n.2) ∙ h))) n.1
+    turn n.0 (either-way _ _ (sym (has-append (long_name p) rows n.0) ∙ (ap (has_option p) (sym n.2) ∙ h))) n.1
   where
-    turn : {r : Row} → (has_row (long_name p) rows ≡ true) ⊎ (bytes_eq r.id (long_name p) ≡ true) → r.id ≡ long_name o → (same_option p o ≡ true) ⊎ (has_option p rows ≡ true)
-    turn (inl before) e = inr before
-    turn (inr here) e = inl (sym (names-apart o p) ∙ ap (λ id. bytes_eq id (long_name p)) (sym e) ∙ here)
+    turn : (r : Row) → (has_row (long_name p) rows ≡ true) ⊎ (bytes_eq r.id (long_name p) ≡ true) → r.id ≡ long_name o → (same_option p o ≡ true) ⊎ (has_option p rows ≡ true)
+    turn r (inl before) e = inr before
+    turn r (inr here) e = inl (sym (names-apart o p) ∙ ap (λ id. bytes_eq id (long_name p)) (sym e) ∙ here)
 
 -- ---- one more number
 
@@ -439,10 +437,10 @@ flag-found p line f is_flag =
     all-keep (λ rows. is_set (text_in p rows)) (λ o rows. default-flag o p rows) all_options (rows_of_line line) ∙ ap is_set (line-text p line f)
     ∙ ap (λ b. is_set (shown b (uses_of p line.pieces))) is_flag ∙ shown-flag (uses_of p line.pieces)
 
-abbrev given_by : Option Word → Option Word → Bool → Option Word → Bool → Bool → Given
+abbrev pub given_by : Option Word → Option Word → Bool → Option Word → Bool → Bool → Given
 given_by quantum seed free book only json = record { quantum = quantum; seed = seed; free = free; book = book; only = only; json = json }
 
-same-given : {q q' s s' b b' : Option Word} {f f' o o' j j' : Bool} → q ≡ q' → s ≡ s' → f ≡ f' → b ≡ b' → o ≡ o' → j ≡ j' → given_by q s f b o j ≡ given_by q' s' f' b' o' j'
+pub same-given : {q q' s s' b b' : Option Word} {f f' o o' j j' : Bool} → q ≡ q' → s ≡ s' → f ≡ f' → b ≡ b' → o ≡ o' → j ≡ j' → given_by q s f b o j ≡ given_by q' s' f' b' o' j'
 same-given e1 e2 e3 e4 e5 e6 = rw (e1, e2, e3, e4, e5, e6) refl
 
 pub given-found : (line : Line) → IsFine line → given_of_rows (rows_found line) ≡ given_in line

@@ -1,5 +1,5 @@
 -- The parser's walk over the words of a line, as far as each of them.
-use Rattle.std.proofs.Common.{◌≡◌, ◌∙◌, ◌&&◌, ◌||◌, ◌⊎◌, ◌≤◌, inl, inr, Bool, cond, true, false, not, refl, sym, ap, subst, List, [], ◌∷◌, ◌++◌, codes, length, map, Option, Some, None}
+use Rattle.std.proofs.Common.{◌≡◌, ◌∙◌, ◌&&◌, ◌||◌, ◌⊎◌, inl, inr, Bool, cond, true, false, not, refl, sym, ap, subst, List, [], ◌∷◌, ◌++◌, codes, Option, Some, None}
 use Rattle.std.specs.List.{fold, list_all}
 use Rattle.std.specs.Prelude.{flat_map}
 use Rattle.std.specs.Str.{bytes_eq}
@@ -9,7 +9,7 @@ use Rattle.clap.specs.Walk as clap
 use Rattle.clap.specs.Takes.{settle_passes, turn_passes, walk_passes}
 use Rattle.clap.specs.Simple.{Shape}
 use Rattle.clap.proofs.OnLiterals.{clap_on_literals}
-use Rattle.pg_commands_words.specs.Pieces.{Piece, Word, apart, begins_with_hyphen, flag, is_name, is_plain, joined, long_name, option_word, positional, positionals_of_end, same_option, takes_value, uses_of, words_of_end, words_of_piece}
+use Rattle.pg_commands_words.specs.Pieces.{Piece, Word, apart, begins_with_hyphen, flag, is_name, is_plain, joined, long_name, option_word, positional, positionals_of_end, takes_value, words_of_end, words_of_piece}
 use Rattle.pg_commands_words.specs.Clap.{line_app}
 use Rattle.pg_commands_words.specs.declared.names.OptionName.{OptionName}
 use Rattle.pg_commands_words.specs.declared.names.OptionName.TheVariants.{Quantum, Seed, Free, Book, Only, Json}

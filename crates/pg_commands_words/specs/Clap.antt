@@ -1,30 +1,35 @@
 -- The command that the parser is given, and what its matches say.
-use Rattle.std.specs.Prelude.{◌≡◌, Bool, true, false, if◌then◌else◌, List, [], ◌∷◌, codes, Option, Some, None, unwrap_or}
+use Rattle.std.specs.Prelude.{◌≡◌, Bool, true, false, if◌then◌else◌, List, [], codes, Option, Some, None, unwrap_or}
 use Rattle.std.specs.Option.{option_map}
 use Rattle.std.specs.Str.{bytes_eq}
 use Rattle.clap.specs.Walk.{Row, Rule, Text, all_of, first_of}
 use Rattle.clap.specs.Simple.{App, Shape, new_app, new_rule, new_shape, with_rule, with_subcommand}
 use Rattle.clap.specs.declared.builder.action.ArgAction.TheVariants.{Append, Set, SetTrue}
 use Rattle.pg_commands_words.specs.Commands.{HasValues, Meaning, Says, name_of}
-use Rattle.pg_commands_words.specs.Pieces.{Given, Word, long_name, takes_value}
+use Rattle.pg_commands_words.specs.Pieces.{Given, Word, long_name}
 use Rattle.pg_commands_words.specs.declared.matches.Options.{Options}
 use Rattle.pg_commands_words.specs.declared.names.Name.{Name}
 use Rattle.pg_commands_words.specs.declared.names.OptionName.{OptionName}
 use Rattle.pg_commands_words.specs.declared.names.OptionName.TheVariants.{Quantum, Seed, Free, Book, Only, Json}
 
-abbrev pub option_rule : OptionName → Rule
-option_rule option = record (new_rule (long_name option)) { long = Some (long_name option); action = Some (if takes_value option then Set else SetTrue) }
+-- an option of this name, which takes a value or is a flag
+abbrev pub option_rule : Text → Bool → Rule
+option_rule name takes = record (new_rule name) { long = Some name; action = Some (if takes then Set else SetTrue) }
 
 abbrev pub words_rule : Rule
 words_rule = record (new_rule (codes "words")) { action = Some Append }
 
-abbrev pub with_option : OptionName → App → App
-with_option option app = with_rule app (option_rule option)
+abbrev pub with_option : Text → Bool → App → App
+with_option name takes app = with_rule app (option_rule name takes)
+
+abbrev pub with_words : App → App
+with_words app = with_rule app words_rule
 
 -- the command of this name; each has the same options and takes any words
 abbrev pub line_app : Text → App
 line_app name =
-    with_rule (with_option Json (with_option Only (with_option Book (with_option Free (with_option Seed (with_option Quantum (new_app name))))))) words_rule
+    with_words (with_option (codes "json") false (with_option (codes "only") false (with_option (codes "book") true (with_option (codes "free") false
+    (with_option (codes "seed") true (with_option (codes "quantum") true (new_app name)))))))
 
 abbrev pub program_top : Shape
 program_top = record (new_shape (codes "peregrine")) {

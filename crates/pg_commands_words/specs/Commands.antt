@@ -1,10 +1,9 @@
 -- Which command words are, without the program's own name.
-use Rattle.std.specs.Prelude.{◌≡◌, ℕ, ℤ, Bool, true, false, not, ◌&&◌, ◌||◌, ◌≤◌, ◌<◌, ◌^◌, List, [], ◌∷◌, length, map, string_bytes, Option, Some, None, is_some}
+use Rattle.std.specs.Prelude.{◌≡◌, ℕ, ℤ, Bool, true, false, not, ◌&&◌, ◌||◌, ◌≤◌, ◌<◌, ◌^◌, List, [], ◌∷◌, codes, length, map, string_bytes, Option, Some, is_some}
 use Rattle.std.specs.List.{list_all}
 use Rattle.std.specs.Option.{option_map}
 use Rattle.pg_num.specs.declared.limits.TheConstants.{NUMBERS_LIMIT, QUANTUM_LIMIT}
 use Rattle.pg_session_trial.specs.declared.line.TheConstants.{TRIAL_LIMIT}
-use Rattle.pg_commands_words.specs.Lines.{name_word}
 use Rattle.pg_commands_words.specs.Pieces.{Given, Line, Word, given_in, is_plain, positionals_of, uses_of, words_of}
 use Rattle.pg_commands_words.specs.Values.{chosen_way, is_book_name, number_of, trial_of}
 use Rattle.pg_commands_words.specs.declared.commands.Command.{Command}
@@ -70,6 +69,15 @@ name_of (show file way numbers) = names.Show
 name_of (conditions file way numbers) = names.Conditions
 name_of (trial number) = names.Trial
 
+-- a command's own word
+abbrev pub name_word : Name → Word
+name_word names.Once = codes "once"
+name_word names.Serve = codes "serve"
+name_word names.Book = codes "book"
+name_word names.Show = codes "show"
+name_word names.Conditions = codes "conditions"
+name_word names.Trial = codes "trial"
+
 -- the words write these numbers, of which there are not too many
 pub record HasNumbers (words : List Word) (numbers : List ℤ) : Type 0 where
   pub has_numbers : map number_of words ≡ map Some numbers
@@ -80,6 +88,12 @@ pub record HasFileAndNumbers (words : List Word) (file : Word) (numbers : List �
   pub texts : List Word
   pub has_file : words ≡ file ∷ texts
   pub has_numbers : HasNumbers texts numbers
+
+-- the words are the number of a trial
+pub record HasTrial (words : List Word) (number : ℕ) : Type 0 where
+  pub text : Word
+  pub has_text : words ≡ text ∷ []
+  pub has_number : trial_of text ≡ Some number
 
 -- the options and the file of a session have these values
 pub record HasSession (given : Given) (words : List Word) (file : Word) (chosen : RecordingWay) (named : Option Word) (only json : Bool) : Type 0 where
@@ -98,7 +112,7 @@ HasValues given words (serve file way named only json) = HasSession given words 
 HasValues given words (book file way) = (chosen_way given ≡ Some way) × (words ≡ file ∷ [])
 HasValues given words (show file way numbers) = (chosen_way given ≡ Some way) × HasFileAndNumbers words file numbers
 HasValues given words (conditions file way numbers) = (chosen_way given ≡ Some way) × HasFileAndNumbers words file numbers
-HasValues given words (trial number) = (text : Word) × (words ≡ text ∷ []) × (trial_of text ≡ Some number)
+HasValues given words (trial number) = HasTrial words number
 
 -- the options and the positionals are this command
 pub record Says (given : Given) (words : List Word) (meaning : Meaning) : Type 0 where

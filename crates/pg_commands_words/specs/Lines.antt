@@ -106,14 +106,6 @@ pub record IsLine (words : List Word) : Type 0 where
 
 -- ---- the command's own word
 
-abbrev pub name_word : Name → Word
-name_word names.Once = codes "once"
-name_word names.Serve = codes "serve"
-name_word names.Book = codes "book"
-name_word names.Show = codes "show"
-name_word names.Conditions = codes "conditions"
-name_word names.Trial = codes "trial"
-
 -- the command that a word names
 abbrev pub named : Word → Option Name
 named word =

@@ -1,5 +1,5 @@
 -- The values that words write.
-use Rattle.std.specs.Prelude.{◌≡◌, ℕ, ℤ, Bool, true, false, pos, negsuc, ◌^◌, ◌-◌, ◌&&◌, nat_le, if◌then◌else◌, List, [], ◌∷◌, Option, Some, None}
+use Rattle.std.specs.Prelude.{ℕ, ℤ, Bool, true, false, pos, negsuc, ◌^◌, ◌-◌, ◌&&◌, nat_le, if◌then◌else◌, [], Option, Some, None}
 use Rattle.std.specs.Option.{option_map}
 use Rattle.pg_num.specs.Decimal.{are_digits, natural_of, decimal_between, digits_up_to}
 use Rattle.pg_num.specs.declared.limits.TheConstants.{QUANTUM_LIMIT}

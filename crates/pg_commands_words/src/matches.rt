@@ -5,9 +5,8 @@ ghost use Rattle.clap.specs.Simple.{app_of};
 ghost use Rattle.clap.specs.Words.{found_of, rows_of, rule_of, subcommand_of, subcommand_rows_of, takes, kind_of};
 ghost use Rattle.clap.specs.declared.builder.command.Command.TheViews.{out-Command};
 ghost use Rattle.clap.specs.declared.error.kind.ErrorKind.TheVariants.{OutOfMemory};
-ghost use Rattle.pg_commands_words.specs.Clap.{given_of, given_of_rows, is_set, line_app, option_rule, program_app, program_top, with_line, with_option};
+ghost use Rattle.pg_commands_words.specs.Clap.{given_of, given_of_rows, is_set, line_app, option_rule, program_app, program_top, with_line, with_option, with_words};
 
-use crate::names::OptionName;
 use clap::error::ErrorKind;
 use clap::{Arg, ArgAction, ArgMatches, Command, Error};
 use std::alloc::{AllocError, Global};
@@ -48,33 +47,43 @@ fn parsed(alloc: Global, words: &[String]) -> Result<ArgMatches<'_>, Error>
 
 // ---- the program's command
 
-// An option.
-fn option<'a>(alloc: Global, name: OptionName) -> Arg<'a>
-    ensures rule { rule_of result ≡ option_rule name }
+// An option of this name, which takes a value or is a flag.
+fn option<'a>(alloc: Global, name: &'a str, takes_value: bool) -> Arg<'a>
+    ensures rule { rule_of result ≡ option_rule name.entry.now takes_value }
     ensures local { result.global ≡ false }
 {
-    let action = if name.takes_value() {
+    let action = if takes_value {
         ArgAction::Set
     } else {
         ArgAction::SetTrue
     };
-    Arg::new(alloc, name.long_name())
-        .long(name.long_name())
-        .action(action)
+    Arg::new(alloc, name).long(name).action(action)
 }
 
 // A command with one more option.
 fn with_option<'a>(
     alloc: Global,
     command: Command<'a>,
-    name: OptionName,
+    name: &'a str,
+    takes_value: bool,
 ) -> Result<Command<'a>, AllocError>
     requires local { (out-Command command).has_globals ≡ false }
-    ensures app { IfOk result (λ c. app_of c ≡ with_option name (app_of command.entry)) }
+    ensures app { IfOk result (λ c. app_of c ≡ with_option name.entry.now takes_value (app_of command.entry)) }
     ensures local { IfOk result (λ c. (out-Command c).has_globals ≡ false) }
 {
-    let option = option(alloc, name);
+    let option = option(alloc, name, takes_value);
     let command = command.arg(option)?;
+    Ok(command)
+}
+
+// A command that takes any words.
+fn with_words<'a>(alloc: Global, command: Command<'a>) -> Result<Command<'a>, AllocError>
+    requires local { (out-Command command).has_globals ≡ false }
+    ensures app { IfOk result (λ c. app_of c ≡ with_words (app_of command.entry)) }
+    ensures local { IfOk result (λ c. (out-Command c).has_globals ≡ false) }
+{
+    let words = Arg::new(alloc, "words").action(ArgAction::Append);
+    let command = command.arg(words)?;
     Ok(command)
 }
 
@@ -84,14 +93,13 @@ fn line_command<'a>(alloc: Global, name: &'a str) -> Result<Command<'a>, AllocEr
     ensures local { IfOk result (λ c. (out-Command c).has_globals ≡ false) }
 {
     let command = Command::new(alloc, name);
-    let command = with_option(alloc, command, OptionName::Quantum)?;
-    let command = with_option(alloc, command, OptionName::Seed)?;
-    let command = with_option(alloc, command, OptionName::Free)?;
-    let command = with_option(alloc, command, OptionName::Book)?;
-    let command = with_option(alloc, command, OptionName::Only)?;
-    let command = with_option(alloc, command, OptionName::Json)?;
-    let words = Arg::new(alloc, "words").action(ArgAction::Append);
-    let command = command.arg(words)?;
+    let command = with_option(alloc, command, "quantum", true)?;
+    let command = with_option(alloc, command, "seed", true)?;
+    let command = with_option(alloc, command, "free", false)?;
+    let command = with_option(alloc, command, "book", true)?;
+    let command = with_option(alloc, command, "only", false)?;
+    let command = with_option(alloc, command, "json", false)?;
+    let command = with_words(alloc, command)?;
     Ok(command)
 }
 

@@ -1,7 +1,7 @@
 //! The words that name the commands and their options.
 ghost use Rattle.std.specs.Prelude.{◌≡◌, ◌++◌, codes};
 ghost use Rattle.pg_commands_words.specs.Lines.{named};
-ghost use Rattle.pg_commands_words.specs.Pieces.{long_name, option_word, takes_value};
+ghost use Rattle.pg_commands_words.specs.Pieces.{option_word, takes_value};
 
 /// Which command it is.
 #[derive(Clone, Copy, Debug, PartialEq, Eq)]
@@ -53,20 +53,6 @@ pub(crate) enum OptionName {
 }
 
 impl OptionName {
-    /// The name of the option.
-    pub(crate) fn long_name(self) -> &'static str
-        ensures { result.now ≡ long_name self }
-    {
-        match self {
-            OptionName::Quantum => "quantum",
-            OptionName::Seed => "seed",
-            OptionName::Free => "free",
-            OptionName::Book => "book",
-            OptionName::Only => "only",
-            OptionName::Json => "json",
-        }
-    }
-
     /// The word of the option.
     pub(crate) fn word(self) -> &'static [u8]
         ensures { result.now ≡ option_word self }

@@ -3,8 +3,8 @@ ghost use Rattle.std.specs.Prelude.{◌≡◌, ◌∷◌, [], map, string_bytes,
 ghost use Rattle.std.specs.Option.{option_map};
 ghost use Rattle.clap.specs.Words.{found_of, rows_of, subcommand_rows_of};
 ghost use Rattle.pg_commands_words.specs.Clap.{HasNoValues, HasValuesOf, Reads, ReadsNone, SaysNone, SaysOf, given_of, given_of_rows, words_in};
-ghost use Rattle.pg_commands_words.specs.Commands.{HasFileAndNumbers, HasSession, HasValues, IsCommand, IsWithin, IsWritten, Meaning, NoCommand, allows, are_allowed, book, conditions, fits, is_of_a_way, is_quantum, meaning_of, once, only_fits, serve, show, trial};
-ghost use Rattle.pg_commands_words.specs.Pieces.{Given, Word};
+ghost use Rattle.pg_commands_words.specs.Commands.{HasFileAndNumbers, HasSession, HasTrial, HasValues, IsCommand, IsWithin, IsWritten, Meaning, NoCommand, allows, are_allowed, book, conditions, fits, is_of_a_way, is_quantum, meaning_of, once, only_fits, serve, show};
+ghost use Rattle.pg_commands_words.specs.Pieces.{Word};
 ghost use Rattle.pg_commands_words.specs.declared.commands.RecordingWay.{RecordingWay};
 ghost use Rattle.pg_commands_words.specs.Values.{is_book_name};
 
@@ -372,8 +372,8 @@ fn file_and_numbers(alloc: Global, texts: &[&str]) -> Result<Option<FileAndNumbe
 
 // The number of the command `trial`.
 fn trial_with(texts: &[&str]) -> Option<u64>
-    ensures some { IfSome result (λ n. (o : Given) → HasValues o (map (λ text. text.now) texts.now) (trial n)) }
-    ensures none { IfNone result ((n : ℕ) (o : Given) → HasValues o (map (λ text. text.now) texts.now) (trial n) → ⊥) }
+    ensures some { IfSome result (HasTrial (map (λ text. text.now) texts.now)) }
+    ensures none { IfNone result ((n : ℕ) → HasTrial (map (λ text. text.now) texts.now) n → ⊥) }
 {
     match only_text(texts) {
         Some(text) => trial_number(text.as_bytes()),

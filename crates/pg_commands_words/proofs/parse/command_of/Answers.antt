@@ -10,22 +10,22 @@ pub returns-in-Some-clause-some : goal.returns-in-Some-clause-some
 returns-in-Some-clause-some c =
     let texts : map (λ t. t.now) c.in-Some.texts.now ≡ words_in (rows_of (found_of c.args.found.now)) =
     ap (λ o. unwrap_or o []) ((rw c.in-Some.is at c.get_raw.ensures) ∙ raw_values-rows (found_of c.args.found.now) (codes "words")) in
-    rw (← texts, ← c.options_found.ensures) c.command_with.ensures.some
+    rw (← texts, ← c.options_found-options.ensures) c.command_with.ensures.some
 
 pub returns-in-Some-clause-none : goal.returns-in-Some-clause-none
 returns-in-Some-clause-none c =
     let texts : map (λ t. t.now) c.in-Some.texts.now ≡ words_in (rows_of (found_of c.args.found.now)) =
     ap (λ o. unwrap_or o []) ((rw c.in-Some.is at c.get_raw.ensures) ∙ raw_values-rows (found_of c.args.found.now) (codes "words")) in
-    rw (← texts, ← c.options_found.ensures) c.command_with.ensures.none
+    rw (← texts, ← c.options_found-options.ensures) c.command_with.ensures.none
 
 pub returns-in-None-clause-some : goal.returns-in-None-clause-some
 returns-in-None-clause-some c =
     let texts : [] ≡ words_in (rows_of (found_of c.args.found.now)) =
     ap (λ o. unwrap_or o []) ((rw c.in-None.is at c.get_raw.ensures) ∙ raw_values-rows (found_of c.args.found.now) (codes "words")) in
-    rw (← texts, ← c.options_found.ensures) c.command_with-in-None.ensures.some
+    rw (← texts, ← c.options_found-options.ensures) c.command_with-in-None.ensures.some
 
 pub returns-in-None-clause-none : goal.returns-in-None-clause-none
 returns-in-None-clause-none c =
     let texts : [] ≡ words_in (rows_of (found_of c.args.found.now)) =
     ap (λ o. unwrap_or o []) ((rw c.in-None.is at c.get_raw.ensures) ∙ raw_values-rows (found_of c.args.found.now) (codes "words")) in
-    rw (← texts, ← c.options_found.ensures) c.command_with-in-None.ensures.none
+    rw (← texts, ← c.options_found-options.ensures) c.command_with-in-None.ensures.none

@@ -1,5 +1,5 @@
 -- The words are a name and a line, or write nothing; of a line the parser's matches say what it is.
-use Rattle.std.proofs.Common.{◌≡◌, ◌∙◌, map, string_bytes, subst, sym, Some, None}
+use Rattle.std.proofs.Common.{◌≡◌, ◌∙◌, map, string_bytes, subst, sym, Some}
 use Rattle.std.proofs.lemmas.Result.{IfOk-weaker}
 use Rattle.pg_commands_words.specs.Clap.{Reads, ReadsNone}
 use Rattle.pg_commands_words.specs.Commands.{meaning_of}
