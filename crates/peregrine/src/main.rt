@@ -6,6 +6,7 @@ ghost use Rattle.std.specs.Process.{exit_status};
 ghost use Rattle.pg_commands.specs.Statuses.{status_code};
 
 use pg_commands::{Status, peregrine};
+use pg_free::Free;
 use pg_io::{FileShelf, ReaderSource, WriterSink};
 use std::process::ExitCode;
 
@@ -26,7 +27,16 @@ fn main(rt: HostRuntime) -> ExitCode {
     let mut src = ReaderSource::new(rt.stdin());
     let mut shelf = FileShelf::new(rt.alloc(), &rt);
     let mut out = WriterSink::new(rt.stdout());
-    exit_code(peregrine(rt.alloc(), &words, &mut src, &mut shelf, &mut out))
+    let mut free = Free::new();
+    exit_code(peregrine(
+        &rt,
+        rt.alloc(),
+        &words,
+        &mut src,
+        &mut shelf,
+        &mut out,
+        &mut free,
+    ))
 }
 
 #[cfg(test)]

@@ -5,7 +5,7 @@ use Rattle.pg_io.specs.Streams.{AppendsFront, TakesAtMost}
 use Rattle.pg_commands_words.specs.Commands.{Meaning}
 use Rattle.pg_commands.specs.declared.status.Status.{Status}
 use Rattle.pg_commands.specs.declared.status.Status.TheVariants.{Done, Usage, ProgramRefused, ShelfFault, ReadFault, WriteFault, InputLimit, OutOfMemory}
-use Rattle.pg_commands.specs.Commands.{World, WritesWhole, WritesRefusal, FailsToFetch, FailsToRead, FailsToWrite, ExceedsLimit, LacksMemory, EndsAs, IsDue, NoFault, IsOr, DueOfText}
+use Rattle.pg_commands.specs.Commands.{World, WritesWhole, WritesRefusal, FailsToFetch, FailsToRead, FailsToWrite, ExceedsLimit, LacksMemory, EndsAs, IsDue, NoFault, IsOr, DueOfText, UsesCrew}
 use Rattle.pg_commands.specs.Commands.{most_taken, WritesTextFront}
 use Rattle.pg_commands.specs.Replies.{IsReply, IsReplyStatus, IsWritten}
 use Rattle.pg_commands.specs.Texts.{IsAccepted, IsRefusalLine}
@@ -30,9 +30,13 @@ pub record Counts (w : World) (status : Status) : Type 0 where
   pub reads : (status ≡ ReadFault) ⊎ (w.source.reads_after ≡ w.source.reads_before)
   pub writes : (status ≡ WriteFault) ⊎ (w.sink.writes_after ≡ w.sink.writes_before)
 
+-- the crew made no round where the command doesn't record by it
+abbrev pub OfCrew : World → Meaning → Type 0
+OfCrew w m = UsesCrew m ⊎ (w.crew.rounds_after ≡ w.crew.rounds_before)
+
 pub ends_as : (w : World) (m : Meaning) (status : Status) → Says w m status → Counts w status
-    → TakesAtMost w.source.rest_before w.source.rest_after (most_taken m) → (NoFault w m → IsDue w status m) → EndsAs w m status
-ends_as w m status says counts takes due = record {
+    → TakesAtMost w.source.rest_before w.source.rest_after (most_taken m) → OfCrew w m → (NoFault w m → IsDue w status m) → EndsAs w m status
+ends_as w m status says counts takes crew due = record {
   no_usage = λ e. subst (Says w m) e says;
   done = λ e. subst (Says w m) e says;
   program_refused = λ e. subst (Says w m) e says;
@@ -45,6 +49,7 @@ ends_as w m status says counts takes due = record {
   reads = counts.reads;
   writes = counts.writes;
   takes = takes;
+  rounds = crew;
   due = due;
 }
 

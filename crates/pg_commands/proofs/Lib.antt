@@ -11,3 +11,4 @@ pub mod OnceEnds
 pub mod ShowEnds
 pub mod TrialEnds
 pub mod ServeEnds
+pub mod SessionsEnd

@@ -6,3 +6,4 @@ pub mod Replies
 pub mod Statuses
 pub mod Texts
 pub mod Verdicts
+pub mod Sessions

@@ -1,5 +1,5 @@
--- The exit status of the process, and that of a session that ends before its input does.
-use Rattle.std.specs.Prelude.{ℕ}
+-- The exit status of the process, and that of a session.
+use Rattle.std.specs.Prelude.{ℕ, Result, Ok, Err}
 use Rattle.pg_session.specs.declared.fault.ServeFault.{ServeFault}
 use Rattle.pg_session.specs.declared.fault.ServeFault.TheVariants as fault
 use Rattle.pg_commands.specs.declared.status.Status.{Status}
@@ -20,3 +20,8 @@ status_of fault.ReadFault = ReadFault
 status_of fault.WriteFault = WriteFault
 status_of fault.InputLimit = InputLimit
 status_of fault.OutOfMemory = OutOfMemory
+
+-- the status of a session that ended so
+abbrev pub session_status : Result (Unit {0}) ServeFault → Status
+session_status (Ok done) = Done
+session_status (Err fault) = status_of fault

@@ -1,6 +1,6 @@
 //! The call that does all that the program does.
 ghost use Rattle.std.specs.Prelude.{◌≡◌, ◌⊎◌, ℕ, List, map, string_bytes};
-ghost use Rattle.pg_commands.specs.Commands.{Ends, IsSession, shelf_change, sink_change, source_change, world};
+ghost use Rattle.pg_commands.specs.Commands.{Ends, IsSession, crew_change, shelf_change, sink_change, source_change, world};
 
 use crate::once::once;
 use crate::serve::serve;
@@ -8,8 +8,11 @@ use crate::show::show;
 use crate::status::Status;
 use crate::trial::trial;
 use pg_commands_words::{Command, command};
+use pg_free::FreeCrew;
 use pg_io::{Shelf, Sink, Source};
 use std::alloc::Global;
+use std::sync::Wait;
+use std::thread::Threads;
 
 /// Runs the command that the words are, without the program's own name. The words are read first. Each reply, each refusal
 /// line, and the whole text of `once`, `show` and `trial` is handed to the sink in one piece.
@@ -25,31 +28,41 @@ use std::alloc::Global;
 /// - `trial` and a number up to 9,999 holds a session of the trial's program over 500 lines that the number settles, and
 ///   writes its counts.
 ///
-/// `once`, `serve` and `show` take `--quantum` and the steps of a thread's turn in a recording, from 1 to 10,000 and 100
-/// without it. A word that begins with `-` stands after `--`. In place of the text, a program text that is refused gives the line
+/// A recording lets threads take their turns in number order. `once`, `serve` and `show` take `--quantum` and the steps of a
+/// thread's turn then, from 1 to 10,000 and 100 without it. In place of it `serve` and `show` take `--free`, so that the given
+/// crew records, or `--seed` and a number below 2^64, so that a generator with this seed picks the thread of each step. A word
+/// that begins with `-` stands after `--`. In place of the text, a program text that is refused gives the line
 /// `program refused L:C NAME` with the line, the column and the name of its first refusal, and behind them the text of a token
 /// that isn't supported.
-pub fn peregrine<S: Source, K: Sink, F: Shelf>(
+///
+/// Where the crew or the runtime waits for another thread, this call waits, and its promises hold once it returns.
+pub fn peregrine<R: Threads + Wait + Sync, S: Source, K: Sink, F: Shelf, G: FreeCrew + Drop>(
+    rt: &R,
     alloc: Global,
     words: &[String],
     src: &mut S,
     shelf: &mut F,
     out: &mut K,
+    free: &mut G,
 ) -> Status
     ensures ends { Ends (world (shelf_change (F.text shelf.old) (F.faults shelf.old) (F.faults shelf.new))
         (source_change (S.rest src.old) (S.rest src.new) (S.faults src.old) (S.faults src.new))
-        (sink_change (K.taken out.old) (K.taken out.new) (K.faults out.old) (K.faults out.new)))
+        (sink_change (K.taken out.old) (K.taken out.new) (K.faults out.old) (K.faults out.new))
+        (crew_change (G.rounds free.old) (G.rounds free.new)))
         (map string_bytes words.now) result }
-    ensures usage_calls_nothing { result ≡ Status.Usage → (src.new ≡ src.old) × (shelf.new ≡ shelf.old) × (out.new ≡ out.old) }
+    ensures usage_calls_nothing { result ≡ Status.Usage → (src.new ≡ src.old) × (shelf.new ≡ shelf.old) × (out.new ≡ out.old) × (free.new ≡ free.old) }
     ensures fault_keeps_sink { (result ≡ Status.ReadFault) ⊎ (result ≡ Status.OutOfMemory) →
         (out.new ≡ out.old) ⊎ IsSession (map string_bytes words.now) }
     ensures texts_stay { (name : List ℕ) → F.text shelf.new name ≡ F.text shelf.old name }
 {
     match command(alloc, words) {
         Ok(Some(Command::Once(command))) => once(alloc, &command, src, out),
-        Ok(Some(Command::Serve(command))) => serve(alloc, &command, src, shelf, out),
-        Ok(Some(Command::Show(command))) => show(alloc, &command, shelf, out),
-        Ok(Some(Command::Trial(number))) => trial(alloc, number, out),
+        Ok(Some(Command::Serve(command))) => serve(rt, alloc, &command, src, shelf, out, free),
+        Ok(Some(Command::Show(command))) => show(rt, alloc, &command, shelf, out, free),
+        // The program hasn't these two yet, so no words are they.
+        Ok(Some(Command::Book(_))) => unreachable!(),
+        Ok(Some(Command::Conditions(_))) => unreachable!(),
+        Ok(Some(Command::Trial(number))) => trial(rt, alloc, number, out),
         Ok(None) => Status::Usage,
         Err(_) => Status::OutOfMemory,
     }

@@ -1,48 +1,67 @@
 //! The command `show`: what is recorded of one input.
-ghost use Rattle.std.specs.Prelude.{◌≡◌, ◌≤◌, ◌⊎◌, ◌<◌, ◌^◌, ℕ, ℤ, List, length, string_bytes, Option, IfOk, IsErrOf};
+ghost use Rattle.std.specs.Prelude.{◌≡◌, ◌≤◌, ◌⊎◌, ◌<◌, ◌^◌, ℕ, ℤ, List, length, string_bytes, Option, IfOk, IsErrOf, OnOk};
 ghost use Rattle.pg_io.specs.Faults.{Rose};
-ghost use Rattle.pg_num.specs.declared.limits.TheConstants.{NUMBERS_LIMIT, QUANTUM_LIMIT};
+ghost use Rattle.pg_num.specs.declared.limits.TheConstants.{NUMBERS_LIMIT};
 ghost use Rattle.pg_law_runs.specs.Cuts.{CanRun};
-ghost use Rattle.pg_commands_words.specs.Commands.{show};
-ghost use Rattle.pg_session_runner.specs.Runs.{runs_of, shown};
+ghost use Rattle.pg_commands_words.specs.Commands.{IsWay, show};
+ghost use Rattle.pg_session_runner.specs.Runs.{runs_by, shown};
 ghost use Rattle.pg_session.specs.Shows.{IsShowText};
-ghost use Rattle.pg_commands.specs.Commands.{EndsAs, Fetched, IsShown, shelf_change, sink_change, source_change, world};
+ghost use Rattle.pg_commands.specs.Commands.{ByCrew, EndsAs, Fetched, IsShown, MakesRounds, crew_change, shelf_change, sink_change, source_change, way_of, world};
 ghost use Rattle.pg_commands.specs.Replies.{IsReply, IsReplyStatus};
 
 use crate::programs::{Loaded, NoProgram, fetch_program};
 use crate::replies::{Reply, write_text};
 use crate::status::Status;
-use pg_commands_words::Show;
+use pg_commands_words::{RecordingWay, Show};
+use pg_free::{FreeCrew, Seeded};
 use pg_io::{Shelf, Sink};
 use pg_ir::Program;
-use pg_session_runner::ProgramRunner;
+use pg_session_runner::{show_freely, show_in_rotation};
 use std::alloc::{AllocError, Global};
+use std::sync::Wait;
+use std::thread::Threads;
 
 /// What is shown of the recording of a program on these numbers.
-fn show_text(
+fn show_text<R: Threads + Wait + Sync, G: FreeCrew>(
+    rt: &R,
     alloc: Global,
     program: &Program,
-    quantum: u32,
+    way: RecordingWay,
     numbers: &[i64],
+    free: &mut G,
 ) -> Result<Vec<u8>, AllocError>
     requires can_run { (input : List ℤ) → length input < 2 ^ 64 → CanRun program.now input }
-    requires least { 1 ≤ quantum }
-    requires most { quantum ≤ QUANTUM_LIMIT }
+    requires way { IsWay way }
     requires few { length numbers.now ≤ NUMBERS_LIMIT }
-    ensures { IfOk result (λ text. IsShowText (runs_of program.now quantum) shown numbers.now text.items) }
+    ensures text { IfOk result (λ text. IsShowText (runs_by program.now (way_of way)) shown numbers.now text.items) }
+    ensures rounds { OnOk result (MakesRounds way (crew_change (G.rounds free.old) (G.rounds free.new)) 1) }
+    ensures others { ByCrew way ⊎ (G.rounds free.new ≡ G.rounds free.old) }
 {
-    let mut runner = ProgramRunner::new(program, quantum);
-    pg_session_runner::show(alloc, &mut runner, numbers)
+    match way {
+        RecordingWay::Rotating(quantum) => show_in_rotation(alloc, program, numbers, quantum),
+        RecordingWay::Free => show_freely(rt, alloc, program, numbers, free),
+        RecordingWay::Seeded(seed) => {
+            let mut crew = Seeded::new(seed);
+            show_freely(rt, alloc, program, numbers, &mut crew)
+        }
+    }
 }
 
 /// The reply to the program text of the file.
-fn fetch_reply<F: Shelf>(alloc: Global, command: &Show, shelf: &mut F) -> Result<Reply, NoProgram>
-    requires least { 1 ≤ command.now.quantum }
-    requires most { command.now.quantum ≤ QUANTUM_LIMIT }
+fn fetch_reply<R: Threads + Wait + Sync, F: Shelf, G: FreeCrew>(
+    rt: &R,
+    alloc: Global,
+    command: &Show,
+    shelf: &mut F,
+    free: &mut G,
+) -> Result<Reply, NoProgram>
+    requires way { IsWay command.now.way }
     requires few { length command.now.numbers.items ≤ NUMBERS_LIMIT }
     ensures status { IfOk result (λ r. IsReplyStatus r.status) }
     ensures reply { IfOk result (λ r. Fetched (F.text shelf.old) (string_bytes command.now.file) (λ text.
-        IsReply (IsShown text command.now.quantum command.now.numbers.items) text r.status r.text.items)) }
+        IsReply (IsShown text command.now.way command.now.numbers.items) text r.status r.text.items)) }
+    ensures rounds { IfOk result (λ r. r.status ≡ Status.Done → MakesRounds command.now.way (crew_change (G.rounds free.old) (G.rounds free.new)) 1) }
+    ensures others { ByCrew command.now.way ⊎ (G.rounds free.new ≡ G.rounds free.old) }
     ensures cause { IsErrOf result NoProgram.ShelfFault →
         Rose (F.faults shelf.old (string_bytes command.now.file)) (F.faults shelf.new (string_bytes command.now.file)) }
     ensures counts { (name : List ℕ) → IsErrOf result NoProgram.ShelfFault ⊎ (F.faults shelf.new name ≡ F.faults shelf.old name) }
@@ -51,7 +70,7 @@ fn fetch_reply<F: Shelf>(alloc: Global, command: &Show, shelf: &mut F) -> Result
     match fetch_program(alloc, shelf, command.file.as_str())? {
         Loaded::Accepted(program) => Ok(Reply {
             status: Status::Done,
-            text: show_text(alloc, &program, command.quantum, &command.numbers)?,
+            text: show_text(rt, alloc, &program, command.way, &command.numbers, free)?,
         }),
         Loaded::Refused(line) => Ok(Reply {
             status: Status::ProgramRefused,
@@ -60,23 +79,26 @@ fn fetch_reply<F: Shelf>(alloc: Global, command: &Show, shelf: &mut F) -> Result
     }
 }
 
-/// Fetches the program text, and writes what is recorded of it on the command's numbers.
-pub(crate) fn show<K: Sink, F: Shelf>(
+/// Fetches the program text, and writes what is recorded of it on the command's numbers. The crew records where the command says
+/// so.
+pub(crate) fn show<R: Threads + Wait + Sync, K: Sink, F: Shelf, G: FreeCrew>(
+    rt: &R,
     alloc: Global,
     command: &Show,
     shelf: &mut F,
     out: &mut K,
+    free: &mut G,
 ) -> Status
-    requires least { 1 ≤ command.now.quantum }
-    requires most { command.now.quantum ≤ QUANTUM_LIMIT }
+    requires way { IsWay command.now.way }
     requires few { length command.now.numbers.items ≤ NUMBERS_LIMIT }
     ensures ends { (rest : Option (List ℕ)) (reads : ℕ) → EndsAs (world (shelf_change (F.text shelf.old) (F.faults shelf.old) (F.faults shelf.new))
-        (source_change rest rest reads reads) (sink_change (K.taken out.old) (K.taken out.new) (K.faults out.old) (K.faults out.new)))
-        (show (string_bytes command.now.file) command.now.quantum command.now.numbers.items) result }
+        (source_change rest rest reads reads) (sink_change (K.taken out.old) (K.taken out.new) (K.faults out.old) (K.faults out.new))
+        (crew_change (G.rounds free.old) (G.rounds free.new)))
+        (show (string_bytes command.now.file) command.now.way command.now.numbers.items) result }
     ensures keeps { (result ≡ Status.ReadFault) ⊎ (result ≡ Status.OutOfMemory) → out.new ≡ out.old }
     ensures texts_stay { (name : List ℕ) → F.text shelf.new name ≡ F.text shelf.old name }
 {
-    let reply = match fetch_reply(alloc, command, shelf) {
+    let reply = match fetch_reply(rt, alloc, command, shelf, free) {
         Ok(reply) => reply,
         Err(NoProgram::ShelfFault) => return Status::ShelfFault,
         Err(NoProgram::OutOfMemory) => return Status::OutOfMemory,

@@ -7,7 +7,7 @@ ghost use Rattle.pg_session_runner.specs.Runs.{entry_admits, runs_of};
 ghost use Rattle.pg_session.specs.Trials.{IsTrialText};
 ghost use Rattle.pg_session_trial.specs.Program.{trial_program};
 ghost use Rattle.pg_session_trial.specs.declared.line.TheConstants.{TRIAL_LIMIT};
-ghost use Rattle.pg_commands.specs.Commands.{EndsAs, IsTrial, shelf_change, sink_change, source_change, world};
+ghost use Rattle.pg_commands.specs.Commands.{EndsAs, IsTrial, crew_change, shelf_change, sink_change, source_change, world};
 ghost use Rattle.pg_commands.specs.Replies.{IsReply, IsReplyStatus};
 
 use crate::programs::{Loaded, load};
@@ -19,20 +19,31 @@ use pg_ir::Program;
 use pg_session_runner::ProgramRunner;
 use pg_session_trial::trial_program;
 use std::alloc::{AllocError, Global};
+use std::sync::Wait;
+use std::thread::Threads;
 
 /// The text of the trial that a number names, of a program.
-fn trial_text(alloc: Global, program: &Program, number: u64) -> Result<Vec<u8>, AllocError>
+fn trial_text<R: Threads + Wait + Sync>(
+    rt: &R,
+    alloc: Global,
+    program: &Program,
+    number: u64,
+) -> Result<Vec<u8>, AllocError>
     requires can_run { (input : List ℤ) → length input < 2 ^ 64 → CanRun program.now input }
     requires number { number ≤ TRIAL_LIMIT }
     ensures { IfOk result (λ text. IsTrialText entry_admits (runs_of program.now DEFAULT_QUANTUM) number text.items) }
 {
     let mut runner = ProgramRunner::new(program, DEFAULT_QUANTUM);
-    let text = pg_session::trial(alloc, &mut runner, number)?;
+    let text = pg_session::trial(rt, alloc, &mut runner, number)?;
     Ok(text)
 }
 
 /// The text of the trial that a number names.
-fn trial_reply(alloc: Global, number: u64) -> Result<Reply, AllocError>
+fn trial_reply<R: Threads + Wait + Sync>(
+    rt: &R,
+    alloc: Global,
+    number: u64,
+) -> Result<Reply, AllocError>
     requires { number ≤ TRIAL_LIMIT }
     ensures status { IfOk result (λ r. IsReplyStatus r.status) }
     ensures reply { IfOk result (λ r. IsReply (IsTrial trial_program number) trial_program r.status r.text.items) }
@@ -40,7 +51,7 @@ fn trial_reply(alloc: Global, number: u64) -> Result<Reply, AllocError>
     match load(alloc, trial_program().as_bytes())? {
         Loaded::Accepted(program) => Ok(Reply {
             status: Status::Done,
-            text: trial_text(alloc, &program, number)?,
+            text: trial_text(rt, alloc, &program, number)?,
         }),
         Loaded::Refused(line) => Ok(Reply {
             status: Status::ProgramRefused,
@@ -50,15 +61,20 @@ fn trial_reply(alloc: Global, number: u64) -> Result<Reply, AllocError>
 }
 
 /// Writes the text of the trial that a number names.
-pub(crate) fn trial<K: Sink>(alloc: Global, number: u64, out: &mut K) -> Status
+pub(crate) fn trial<R: Threads + Wait + Sync, K: Sink>(
+    rt: &R,
+    alloc: Global,
+    number: u64,
+    out: &mut K,
+) -> Status
     requires { number ≤ TRIAL_LIMIT }
-    ensures ends { (texts : List ℕ → Option (List ℕ)) (fetches : List ℕ → ℕ) (rest : Option (List ℕ)) (reads : ℕ) → EndsAs
+    ensures ends { (texts : List ℕ → Option (List ℕ)) (fetches : List ℕ → ℕ) (rest : Option (List ℕ)) (reads rounds : ℕ) → EndsAs
         (world (shelf_change texts fetches fetches) (source_change rest rest reads reads)
-        (sink_change (K.taken out.old) (K.taken out.new) (K.faults out.old) (K.faults out.new)))
+        (sink_change (K.taken out.old) (K.taken out.new) (K.faults out.old) (K.faults out.new)) (crew_change rounds rounds))
         (trial number) result }
     ensures keeps { (result ≡ Status.ReadFault) ⊎ (result ≡ Status.OutOfMemory) → out.new ≡ out.old }
 {
-    let reply = match trial_reply(alloc, number) {
+    let reply = match trial_reply(rt, alloc, number) {
         Ok(reply) => reply,
         Err(_) => return Status::OutOfMemory,
     };

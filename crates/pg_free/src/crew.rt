@@ -26,6 +26,10 @@ pub trait FreeCrew {
         ensures places { AreWorkers workers.new }
         ensures counts { Rose (rounds self.old) (rounds self.new) }
         ensures never_falls { rounds self.old ≤ rounds self.new };
+
+    /// A crew of the same sort that made no round.
+    fn another(&self) -> Self
+        ensures rounds { rounds result ≡ 0 };
 }
 
 /// Steps a worker until it can't go on, up to so many steps at a hold of the lock.

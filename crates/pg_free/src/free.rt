@@ -76,4 +76,8 @@ impl FreeCrew for Free {
         let made = shared.count(rt).min(workers.len());
         in_threads(rt, shared, &mut workers[..made]);
     }
+
+    fn another(&self) -> Free {
+        Free::new()
+    }
 }

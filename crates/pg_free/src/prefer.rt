@@ -66,4 +66,11 @@ impl FreeCrew for Prefer {
         self.rounds = self.rounds.saturating_add(1);
         one_by_one(rt, shared, self.thread.0 as usize, workers);
     }
+
+    fn another(&self) -> Prefer {
+        Prefer {
+            thread: self.thread,
+            rounds: 0,
+        }
+    }
 }

@@ -76,4 +76,9 @@ impl FreeCrew for Seeded {
         self.rounds = self.rounds.saturating_add(1);
         drawn(rt, shared, &mut self.generator, workers);
     }
+
+    /// It has the generator of seed 0.
+    fn another(&self) -> Seeded {
+        Seeded::new(0)
+    }
 }

@@ -3,4 +3,4 @@
 
 pub mod laws;
 
-pub use pg_session_entry::{Entry, FromFault, Record, from_turns, record};
+pub use pg_session_entry::{Entry, FromFault, Record, from_recorded, from_turns, record};

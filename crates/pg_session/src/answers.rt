@@ -11,6 +11,8 @@ use crate::runner::{Recording, Runner};
 use pg_cache::Cache;
 use pg_session_texts::{EndLine, ReplyKind};
 use std::alloc::{AllocError, Global};
+use std::sync::Wait;
+use std::thread::Threads;
 
 /// What is answered to a line of input.
 #[derive(Drop)]
@@ -21,7 +23,8 @@ pub(crate) struct Answer {
 }
 
 /// The answer by the entry of this number, which admits the input.
-fn reused<R: Runner>(
+fn reused<H: Threads + Sync, R: Runner>(
+    rt: &H,
     alloc: Global,
     runner: &mut R,
     cache: &Cache<R::Entry>,
@@ -39,7 +42,7 @@ fn reused<R: Runner>(
     let Some(entry) = cache.value(number) else {
         unreachable!();
     };
-    let run = runner.run_along(alloc, entry, input)?;
+    let run = runner.run_along(rt, alloc, entry, input)?;
     Ok(Answer {
         kind: ReplyKind::Reused(number),
         output: run.output,
@@ -48,7 +51,8 @@ fn reused<R: Runner>(
 }
 
 /// The answer by a recording, where no entry admits the input.
-fn recorded<R: Runner>(
+fn recorded<H: Threads + Wait + Sync, R: Runner>(
+    rt: &H,
     alloc: Global,
     runner: &mut R,
     cache: &mut Cache<R::Entry>,
@@ -64,7 +68,7 @@ fn recorded<R: Runner>(
     ensures counted { IfOk result (λ a. AreCounted (answer_of a ∷ []) (R.counts runner.old) (R.counts runner.new)) }
     ensures stays { R.subject runner.new ≡ R.subject runner.old }
 {
-    match runner.record(alloc, input)? {
+    match runner.record(rt, alloc, input)? {
         Recording::Kept(entry, run) => {
             let number = cache.insert(entry);
             Ok(Answer {
@@ -82,7 +86,8 @@ fn recorded<R: Runner>(
 }
 
 /// The answer to an input: by the least entry that is kept and admits it, or by a recording, whose entry is kept then.
-pub(crate) fn answer_to<R: Runner>(
+pub(crate) fn answer_to<H: Threads + Wait + Sync, R: Runner>(
+    rt: &H,
     alloc: Global,
     runner: &mut R,
     cache: &mut Cache<R::Entry>,
@@ -99,7 +104,7 @@ pub(crate) fn answer_to<R: Runner>(
     ensures stays { R.subject runner.new ≡ R.subject runner.old }
 {
     match cache.find(input) {
-        Some(number) => reused(alloc, runner, cache, number, input),
-        None => recorded(alloc, runner, cache, input),
+        Some(number) => reused(rt, alloc, runner, cache, number, input),
+        None => recorded(rt, alloc, runner, cache, input),
     }
 }

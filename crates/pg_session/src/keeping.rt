@@ -15,6 +15,8 @@ use crate::session::{Session, end_line};
 use pg_cache::Cache;
 use pg_io::{Failed, Sink, Source};
 use std::alloc::Global;
+use std::sync::Wait;
+use std::thread::Threads;
 
 /// Takes all that it is handed, and tells nothing of it.
 #[derive(Drop)]
@@ -36,7 +38,8 @@ impl Sink for Nowhere {
 ///
 /// `ReadFault` where a read failed, `InputLimit` where the source has more bytes than a session takes, `OutOfMemory` where there
 /// was no memory.
-pub fn kept_by<R: Runner, S: Source>(
+pub fn kept_by<H: Threads + Wait + Sync, R: Runner, S: Source>(
+    rt: &H,
     alloc: Global,
     runner: &mut R,
     first: Cache<R::Entry>,
@@ -57,12 +60,12 @@ pub fn kept_by<R: Runner, S: Source>(
         line: Vec::new(alloc),
     };
     let mut out = Nowhere;
-    take_all(alloc, runner, &mut session, src, &mut out)?;
+    take_all(rt, alloc, runner, &mut session, src, &mut out)?;
     if session.line.is_empty() {
         let Session { cache, .. } = session;
         return Ok(cache);
     }
-    end_line(alloc, runner, &mut session, &mut out)?;
+    end_line(rt, alloc, runner, &mut session, &mut out)?;
     let Session { cache, .. } = session;
     Ok(cache)
 }

@@ -1,5 +1,6 @@
 //! What a session asks of a program.
 ghost use Rattle.std.specs.Prelude.{◌≡◌, ◌≤◌, true, length, Some, IfOk, OnOk};
+ghost use denote.Param.Send.{IsSync};
 ghost use Rattle.pg_num.specs.declared.limits.TheConstants.{NUMBERS_LIMIT};
 ghost use Rattle.pg_session.specs.Counts.{Counted, Counts};
 ghost use Rattle.pg_session.specs.Sessions.{Runs, IsEntryOf};
@@ -10,6 +11,8 @@ use pg_cache::Admits;
 use pg_run::Refusal;
 use pg_session_texts::EndLine;
 use std::alloc::{AllocError, Global};
+use std::sync::Wait;
+use std::thread::Threads;
 
 /// What a run along a schedule printed, and how it ended.
 #[derive(Drop)]
@@ -45,20 +48,28 @@ pub trait Runner {
     ghost counts: { Self → Counts };
 
     /// Records a run on an input.
-    fn record(&mut self, alloc: Global, input: &[i64]) -> Result<Recording<Self::Entry>, AllocError>
-        requires { length input.now ≤ NUMBERS_LIMIT }
+    fn record<H: Threads + Wait + Sync>(
+        &mut self,
+        rt: &H,
+        alloc: Global,
+        input: &[i64],
+    ) -> Result<Recording<Self::Entry>, AllocError>
+        requires sync { IsSync H.row }
+        requires few { length input.now ≤ NUMBERS_LIMIT }
         ensures gives { IfOk result (ComesOfRecording (runs (subject self.old)) input.now) }
         ensures counts_stay { Counted 0 0 (counts self.old) (counts self.new) }
         ensures counts { OnOk result (Counted 0 1 (counts self.old) (counts self.new)) }
         ensures stays { subject self.new ≡ subject self.old };
 
     /// Runs along the schedule of an entry of the same program, which admits the input.
-    fn run_along(
+    fn run_along<H: Threads + Sync>(
         &mut self,
+        rt: &H,
         alloc: Global,
         entry: &Self::Entry,
         input: &[i64],
     ) -> Result<Run, AllocError>
+        requires sync { IsSync H.row }
         requires few { length input.now ≤ NUMBERS_LIMIT }
         requires entry { IsEntryOf (runs (subject self.old)) entry.now }
         requires admitted { Self.Entry.test (Self.Entry.meaning entry.now) input.now ≡ true }

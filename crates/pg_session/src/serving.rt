@@ -16,12 +16,15 @@ use pg_cache::Cache;
 use pg_io::{Failed, Sink, Source};
 use pg_num::limits::SESSION_INPUT_LIMIT;
 use std::alloc::Global;
+use std::sync::Wait;
+use std::thread::Threads;
 
 /// The most bytes that one call asks of a source.
 const PIECE: usize = 4_096;
 
 // Takes pieces of the source until it ends, or has given as many bytes as a session takes. Whether it ended.
-fn take_pieces<R: Runner, S: Source, K: Sink>(
+fn take_pieces<H: Threads + Wait + Sync, R: Runner, S: Source, K: Sink>(
+    rt: &H,
     alloc: Global,
     runner: &mut R,
     session: &mut Session<R::Entry>,
@@ -55,7 +58,7 @@ fn take_pieces<R: Runner, S: Source, K: Sink>(
         match src.read(&mut piece[..room]) {
             Ok(0) => return Ok(true),
             Ok(n) => {
-                take_piece(alloc, runner, session, &piece[..n], out)?;
+                take_piece(rt, alloc, runner, session, &piece[..n], out)?;
                 taken += n;
             }
             Err(Failed) => return Err(ServeFault::ReadFault),
@@ -84,7 +87,8 @@ fn must_end<S: Source>(src: &mut S) -> Result<(), ServeFault>
 }
 
 // Takes all of the source, unless it has more bytes than a session takes.
-pub(crate) fn take_all<R: Runner, S: Source, K: Sink>(
+pub(crate) fn take_all<H: Threads + Wait + Sync, R: Runner, S: Source, K: Sink>(
+    rt: &H,
     alloc: Global,
     runner: &mut R,
     session: &mut Session<R::Entry>,
@@ -112,7 +116,7 @@ pub(crate) fn take_all<R: Runner, S: Source, K: Sink>(
     ensures write_count { IsErrOf result ServeFault.WriteFault ⊎ (K.faults out.new ≡ K.faults out.old) }
     ensures stays { R.subject runner.new ≡ R.subject runner.old }
 {
-    let ended = take_pieces(alloc, runner, session, src, out)?;
+    let ended = take_pieces(rt, alloc, runner, session, src, out)?;
     if ended {
         return Ok(());
     }
@@ -128,7 +132,8 @@ pub(crate) fn take_all<R: Runner, S: Source, K: Sink>(
 ///
 /// `ReadFault` and `WriteFault` where a read or a write failed, `InputLimit` where the source has more bytes than a session
 /// takes, `OutOfMemory` where there was no memory.
-pub fn serve<R: Runner, S: Source, K: Sink>(
+pub fn serve<H: Threads + Wait + Sync, R: Runner, S: Source, K: Sink>(
+    rt: &H,
     alloc: Global,
     runner: &mut R,
     first: Cache<R::Entry>,
@@ -160,11 +165,11 @@ pub fn serve<R: Runner, S: Source, K: Sink>(
         cache: first,
         line: Vec::new(alloc),
     };
-    take_all(alloc, runner, &mut session, src, out)?;
+    take_all(rt, alloc, runner, &mut session, src, out)?;
     if session.line.is_empty() {
         return Ok(());
     }
     // The end of the source ends a line that has begun.
-    end_line(alloc, runner, &mut session, out)?;
+    end_line(rt, alloc, runner, &mut session, out)?;
     Ok(())
 }

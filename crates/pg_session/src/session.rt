@@ -18,6 +18,8 @@ use pg_io::{Sink, write_all};
 use pg_num::limits::{CACHE_LIMIT, LINE_LIMIT};
 use pg_session_texts::{ReplyKind, reply_text};
 use std::alloc::{AllocError, Global};
+use std::sync::Wait;
+use std::thread::Threads;
 
 /// The entries that are kept, and the line that has begun: its bytes, or so many that it is too long.
 #[derive(Drop)]
@@ -39,7 +41,8 @@ pub fn begin<E: Drop>(alloc: Global) -> Result<Cache<E>, AllocError>
 }
 
 // The answer to a line.
-fn answer_line<R: Runner>(
+fn answer_line<H: Threads + Wait + Sync, R: Runner>(
+    rt: &H,
     alloc: Global,
     runner: &mut R,
     cache: &mut Cache<R::Entry>,
@@ -54,7 +57,7 @@ fn answer_line<R: Runner>(
     ensures stays { R.subject runner.new ≡ R.subject runner.old }
 {
     match input_of(alloc, line)? {
-        Some(input) => answer_to(alloc, runner, cache, &input),
+        Some(input) => answer_to(rt, alloc, runner, cache, &input),
         None => Ok(Answer {
             kind: ReplyKind::RefusedLine,
             output: Vec::new(alloc),
@@ -73,7 +76,8 @@ fn text_of(alloc: Global, answer: Answer) -> Result<Vec<u8>, AllocError>
 }
 
 // The text of the reply to a line.
-fn reply<R: Runner>(
+fn reply<H: Threads + Wait + Sync, R: Runner>(
+    rt: &H,
     alloc: Global,
     runner: &mut R,
     cache: &mut Cache<R::Entry>,
@@ -85,13 +89,14 @@ fn reply<R: Runner>(
     ensures text { IfOk result (λ text. IsReplyTo (admits_by R.Entry.meaning R.Entry.test) (R.runs (R.subject runner.old)) cache.old line.now cache.new text.items (R.counts runner.old) (R.counts runner.new)) }
     ensures stays { R.subject runner.new ≡ R.subject runner.old }
 {
-    let answer = answer_line(alloc, runner, cache, line)?;
+    let answer = answer_line(rt, alloc, runner, cache, line)?;
     let text = text_of(alloc, answer)?;
     Ok(text)
 }
 
 /// Ends the line that has begun, and writes the reply to it.
-pub(crate) fn end_line<R: Runner, K: Sink>(
+pub(crate) fn end_line<H: Threads + Wait + Sync, R: Runner, K: Sink>(
+    rt: &H,
     alloc: Global,
     runner: &mut R,
     session: &mut Session<R::Entry>,
@@ -109,7 +114,7 @@ pub(crate) fn end_line<R: Runner, K: Sink>(
     ensures count_stays { IsErrOf result ReplyFault.WriteFault ⊎ (K.faults out.new ≡ K.faults out.old) }
     ensures stays { R.subject runner.new ≡ R.subject runner.old }
 {
-    let text = reply(alloc, runner, &mut session.cache, &session.line)?;
+    let text = reply(rt, alloc, runner, &mut session.cache, &session.line)?;
     session.line.clear();
     write_all(out, &text)?;
     Ok(())
@@ -127,7 +132,8 @@ fn keep(line: &mut Vec<u8>, byte: u8) -> Result<(), AllocError>
 }
 
 /// Takes the bytes of a piece, and writes the reply to each line that ends in it.
-pub(crate) fn take_piece<R: Runner, K: Sink>(
+pub(crate) fn take_piece<H: Threads + Wait + Sync, R: Runner, K: Sink>(
+    rt: &H,
     alloc: Global,
     runner: &mut R,
     session: &mut Session<R::Entry>,
@@ -149,7 +155,7 @@ pub(crate) fn take_piece<R: Runner, K: Sink>(
 {
     for byte in piece {
         if *byte == b'\n' {
-            end_line(alloc, runner, session, out)?;
+            end_line(rt, alloc, runner, session, out)?;
         } else {
             keep(&mut session.line, *byte)?;
         }

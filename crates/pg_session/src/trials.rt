@@ -15,6 +15,8 @@ use pg_num::{Width, add, digits_in_i64, from_signed, to_signed};
 use pg_session_texts::{EndLine, ReplyKind};
 use pg_session_trial::{TRIAL_LINES, trial_line};
 use std::alloc::{AllocError, Global};
+use std::sync::Wait;
+use std::thread::Threads;
 
 /// What is told of a session: how many lines were recorded, reused and refused, how many turns their runs did, and the
 /// sum of the numbers that they printed, modulo 2 to the power of 64.
@@ -158,7 +160,12 @@ fn counts_text(alloc: Global, number: u64, counts: Counts) -> Result<Vec<u8>, Al
 }
 
 /// The text of the trial that a number names, by a session of the program that the runner runs.
-pub fn trial<R: Runner>(alloc: Global, runner: &mut R, number: u64) -> Result<Vec<u8>, AllocError>
+pub fn trial<H: Threads + Wait + Sync, R: Runner>(
+    rt: &H,
+    alloc: Global,
+    runner: &mut R,
+    number: u64,
+) -> Result<Vec<u8>, AllocError>
     requires exact { IsExact R.Entry.meaning }
     requires number { number ≤ TRIAL_LIMIT }
     ensures text { IfOk result (λ text. TrialCounted (admits_by R.Entry.meaning R.Entry.test) (R.runs (R.subject runner.old)) number (R.counts runner.old) (R.counts runner.new) text.items) }
@@ -174,7 +181,7 @@ pub fn trial<R: Runner>(alloc: Global, runner: &mut R, number: u64) -> Result<Ve
     };
     for i in 0..TRIAL_LINES {
         let input = trial_line(alloc, number, i)?;
-        let answer = answer_to(alloc, runner, &mut cache, &input)?;
+        let answer = answer_to(rt, alloc, runner, &mut cache, &input)?;
         counts = counted(counts, &answer);
     }
     counts_text(alloc, number, counts)

@@ -1,4 +1,5 @@
 pub mod TurnCounts
+pub mod RoundCounts
 pub mod KeptInsertions
 pub mod ReusedEntries
 pub mod RecordedEntries

@@ -1,5 +1,5 @@
 -- What was recorded in some way is a recording.
-use Rattle.std.proofs.Common.{◌≡◌, ℕ, ℤ, List, sym, subst}
+use Rattle.std.proofs.Common.{ℕ, ℤ, List, sym, subst}
 use Rattle.pg_ir.specs.Program.{NumberedProgram}
 use Rattle.pg_run_trace.specs.declared.step.Step.{Step}
 use Rattle.pg_run.specs.declared.outcome.Outcome.{Outcome}

@@ -80,10 +80,10 @@ pub record RunsAlong (p : NumberedProgram) (entry : EntryParts) (input : List �
 
 -- ---- sessions
 
--- a program, and the quantum of its recordings
+-- a program, and how its inputs are recorded
 pub record Subject : Type 0 where
   pub program : NumberedProgram
-  pub quantum : ℕ
+  pub way : Way
 
 -- the same, and what was counted of its runs so far
 pub record Running : Type 0 where
@@ -102,11 +102,15 @@ runs_of p quantum = runs_by p (rotating quantum)
 abbrev pub entry_admits : EntryParts → List ℤ → Bool
 entry_admits entry input = is_admitted input entry.precondition
 
--- the program can run on each input of a session, and the quantum is within its limits
+-- the quantum of a rotation is within its limits
+abbrev pub IsWay : Way → Type 0
+IsWay (rotating quantum) = (1 ≤ quantum) × (quantum ≤ QUANTUM_LIMIT)
+IsWay freely = Unit {0}
+
+-- the program can run on each input of a session, and the quantum of a rotation is within its limits
 pub record CanServe (s : Subject) : Type 0 where
   pub can_run : (input : List ℤ) → length input < 2 ^ 64 → CanRun s.program input
-  pub least : 1 ≤ s.quantum
-  pub most : s.quantum ≤ QUANTUM_LIMIT
+  pub way : IsWay s.way
 
 -- ---- what is shown of an entry
 

@@ -2,8 +2,10 @@
 ghost use Rattle.std.specs.Prelude.{Contains, ◌≡◌, ◌<◌, ◌^◌, ℕ, ℤ, All, List, length, true, Option, Some, slice_get};
 ghost use Rattle.pg_ir.specs.Program.{NumberedProgram};
 ghost use Rattle.pg_cache.specs.Kept.{Kept};
-ghost use Rattle.pg_run.specs.Rotation.{rotation_of};
+ghost use Rattle.pg_run_trace.specs.declared.step.Step.{Step};
+ghost use Rattle.pg_run.specs.State.{State};
 ghost use Rattle.pg_law_runs.specs.Cuts.{CanRun};
+ghost use Rattle.pg_law_runs.specs.LastTurns.{IsRecorded};
 ghost use Rattle.pg_session_texts.specs.declared.reply.EndLine.{EndLine};
 ghost use Rattle.pg_session_texts.specs.declared.reply.ReplyKind.TheVariants.{Recorded, Reused};
 ghost use Rattle.pg_law_reuse.specs.Entries.{EntryParts, IsEntry};
@@ -13,18 +15,14 @@ ghost use Rattle.pg_session.specs.Sessions.{Answer, AnswersAll, IsEntryOf, IsSes
 ghost use Rattle.pg_session_runner.specs.Headline.{IsReusedLine, IsServedRecording};
 ghost use Rattle.pg_session_runner.specs.Runs.{IsGiven, IsKept, Way, entry_admits, rotating, runs_by};
 
-use pg_law_order::recorded::the_schedule_of_a_rotation_run_is_good;
 use pg_law_reuse::laws::{an_entry_of_turns_serves_what_it_admits, an_entry_serves_what_it_admits};
-use pg_run::Outcome;
 use pg_run::laws::a_rotation_is_a_run;
 
 /// The schedule of a recorded run has so few turns that 32 bits count them.
 pub fn a_recorded_schedule_has_few_turns()
-    ensures { (p : NumberedProgram) (quantum : ℕ) (input : List ℤ) (value : ℤ) (entry : EntryParts) → (rotation_of p input quantum).end ≡ Outcome.Exit value
-        → IsEntry p input (rotation_of p input quantum).trace (rotation_of p input quantum).state entry → length entry.schedule.turns < 2 ^ 32 }
-{
-    the_schedule_of_a_rotation_run_is_good();
-}
+    ensures { (p : NumberedProgram) (input : List ℤ) (xs : List Step) (z : State) (entry : EntryParts) → IsRecorded p input xs z
+        → IsEntry p input xs z entry → length entry.schedule.turns < 2 ^ 32 }
+{}
 
 /// The entry of a recording has a good run on each input that its precondition admits, and its schedule serves the input.
 pub fn a_kept_entry_serves_what_it_admits()

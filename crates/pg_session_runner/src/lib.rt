@@ -9,5 +9,6 @@ mod runner;
 mod shows;
 
 pub use loading::{LoadFault, load_turns};
-pub use runner::ProgramRunner;
-pub use shows::show;
+pub use pg_law_reuse::Entry;
+pub use runner::{FreeRunner, ProgramRunner};
+pub use shows::{show_freely, show_in_rotation};

@@ -2,7 +2,7 @@
 
 ghost use Rattle.std.specs.Prelude.{◌<◌, ◌≤◌, length};
 
-use pg_free::{Prefer, free_record};
+use pg_free::{FreeCrew, Prefer, free_record};
 use pg_ir::{InstrId, ThreadNo, TrapName};
 use pg_run::{Outcome, Refusal};
 use pg_test_samples::Sample;
@@ -114,6 +114,7 @@ fn expect_row<R: Threads + Wait + Abort + Sync>(
         row.sample
     );
     assert!(rt; crew.rounds() > 0);
+    assert_eq!(rt; crew.another().rounds(), 0);
     Ok(())
 }
 

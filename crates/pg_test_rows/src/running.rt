@@ -1,9 +1,13 @@
 //! Runs of the top call on texts in memory, and the files of a row.
 use anyhow::Result;
 use pg_commands::{Status, peregrine};
+use pg_free::Free;
 use pg_io::{MemoryShelf, MemorySink, MemorySource};
 use std::alloc::{AllocError, Global};
 use std::fs;
+use std::rt::Files;
+use std::sync::Wait;
+use std::thread::Threads;
 
 /// The most bytes that a row writes.
 const ROOM: usize = 65_536;
@@ -21,20 +25,32 @@ fn words_of(alloc: Global, line: &str) -> Result<Vec<String>, AllocError> {
 }
 
 /// The status of the command whose words these are, with this shelf and this source, and what it writes.
-pub(crate) fn outcome(
-    alloc: Global,
+pub(crate) fn outcome<R: Threads + Wait + Sync + Print + Files + Alloc>(
+    rt: &R,
     line: &str,
     mut shelf: MemoryShelf,
     mut src: MemorySource,
 ) -> Result<(Status, Vec<u8>), AllocError> {
+    let alloc = rt.alloc();
     let words = words_of(alloc, line)?;
     let mut out = MemorySink::new(alloc, ROOM, Vec::new(alloc))?;
-    let status = peregrine(alloc, &words, &mut src, &mut shelf, &mut out);
+    let status = peregrine(
+        rt,
+        alloc,
+        &words,
+        &mut src,
+        &mut shelf,
+        &mut out,
+        &mut Free::new(),
+    );
     Ok((status, out.bytes().to_vec(alloc)?))
 }
 
 /// The files of these names, one behind the other.
-pub(crate) fn joined(rt: &HostRuntime, names: &str) -> Result<Vec<u8>> {
+pub(crate) fn joined<R: Threads + Wait + Sync + Print + Files + Alloc>(
+    rt: &R,
+    names: &str,
+) -> Result<Vec<u8>> {
     let mut text = Vec::new(rt.alloc());
     for name in names.split_whitespace() {
         let file = fs::read(rt, name)?;
@@ -43,7 +59,10 @@ pub(crate) fn joined(rt: &HostRuntime, names: &str) -> Result<Vec<u8>> {
     Ok(text)
 }
 
-pub(crate) fn print_bytes(rt: &HostRuntime, bytes: &[u8]) -> Result<()> {
+pub(crate) fn print_bytes<R: Threads + Wait + Sync + Print + Files + Alloc>(
+    rt: &R,
+    bytes: &[u8],
+) -> Result<()> {
     match str::from_utf8(bytes) {
         Ok(text) => print!(rt; "{text}")?,
         Err(_) => println!(rt; "bytes that are no text")?,

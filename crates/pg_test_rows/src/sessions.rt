@@ -10,6 +10,9 @@ use pg_io::{MemoryShelf, MemorySource};
 use pg_num::limits::{LINE_LIMIT, PROGRAM_TEXT_LIMIT};
 use std::alloc::{AllocError, Global};
 use std::fs;
+use std::rt::Files;
+use std::sync::Wait;
+use std::thread::Threads;
 
 /// The most bytes of one read.
 const PIECE: usize = 4096;
@@ -36,30 +39,30 @@ fn slow_source(alloc: Global, input: &[u8], failing: &[u64]) -> Result<MemorySou
 }
 
 /// The status of the command whose words these are, with this program text and this source, and what it writes.
-fn answer(
-    alloc: Global,
+fn answer<R: Threads + Wait + Sync + Print + Files + Alloc>(
+    rt: &R,
     line: &str,
     text: &[u8],
     src: MemorySource,
 ) -> Result<(Status, Vec<u8>), AllocError> {
-    outcome(alloc, line, shelf_of(alloc, text)?, src)
+    outcome(rt, line, shelf_of(rt.alloc(), text)?, src)
 }
 
 /// Runs a command line, and prints what comes of it, under a title. Says so where reads of one byte give something else.
-fn print_outcome(
-    rt: &HostRuntime,
+fn print_outcome<R: Threads + Wait + Sync + Print + Files + Alloc>(
+    rt: &R,
     title: &str,
     line: &str,
     text: &[u8],
     input: &[u8],
 ) -> Result<()> {
     let src = source_of(rt.alloc(), input)?;
-    let (status, written) = answer(rt.alloc(), line, text, src)?;
+    let (status, written) = answer(rt, line, text, src)?;
     let code = status.code();
     println!(rt; "{title}: {code}")?;
     print_bytes(rt, written.as_slice())?;
     let src = slow_source(rt.alloc(), input, &[])?;
-    let (other, others) = answer(rt.alloc(), line, text, src)?;
+    let (other, others) = answer(rt, line, text, src)?;
     if status != other || written.as_slice() != others.as_slice() {
         println!(rt; "reads of one byte give something else")?;
     }
@@ -67,7 +70,12 @@ fn print_outcome(
 }
 
 /// Runs a row: its words, its files and its input.
-fn print_row(rt: &HostRuntime, row: &str, line: &str, rest: &str) -> Result<()> {
+fn print_row<R: Threads + Wait + Sync + Print + Files + Alloc>(
+    rt: &R,
+    row: &str,
+    line: &str,
+    rest: &str,
+) -> Result<()> {
     let Some((names, lines)) = rest.split_once(" |") else {
         println!(rt; "no row: {row}")?;
         return Ok(());
@@ -78,10 +86,13 @@ fn print_row(rt: &HostRuntime, row: &str, line: &str, rest: &str) -> Result<()> 
 }
 
 /// Whether `serve` answers anything else on a front of the text than that the program ran or was refused.
-fn has_other_front(alloc: Global, text: &[u8]) -> Result<bool, AllocError> {
+fn has_other_front<R: Threads + Wait + Sync + Print + Files + Alloc>(
+    rt: &R,
+    text: &[u8],
+) -> Result<bool, AllocError> {
     for len in 0..text.len() {
-        let src = source_of(alloc, b"\n")?;
-        let (status, _) = answer(alloc, "serve x", &text[..len], src)?;
+        let src = source_of(rt.alloc(), b"\n")?;
+        let (status, _) = answer(rt, "serve x", &text[..len], src)?;
         if status != Status::Done && status != Status::ProgramRefused {
             return Ok(true);
         }
@@ -91,17 +102,27 @@ fn has_other_front(alloc: Global, text: &[u8]) -> Result<bool, AllocError> {
 
 /// The status of `serve` of the program text `text` over these lines, where the reads of these numbers fail, and what it
 /// writes. A read takes one byte.
-fn served(
-    alloc: Global,
+fn served<R: Threads + Wait + Sync + Print + Files + Alloc>(
+    rt: &R,
     text: &[u8],
     lines: &[u8],
     failing: &[u64],
 ) -> Result<(Status, Vec<u8>), AllocError> {
-    answer(alloc, "serve x", text, slow_source(alloc, lines, failing)?)
+    answer(
+        rt,
+        "serve x",
+        text,
+        slow_source(rt.alloc(), lines, failing)?,
+    )
 }
 
 /// Prints a status and what was written, with `/` for a line feed.
-fn print_served(rt: &HostRuntime, title: &str, status: Status, written: &[u8]) -> Result<()> {
+fn print_served<R: Threads + Wait + Sync + Print + Files + Alloc>(
+    rt: &R,
+    title: &str,
+    status: Status,
+    written: &[u8],
+) -> Result<()> {
     let code = status.code();
     match str::from_utf8(written) {
         Ok(text) => {
@@ -123,15 +144,24 @@ fn front(bytes: &[u8], len: usize) -> &[u8] {
 }
 
 /// Serves the lines where the source ends behind so many bytes, and where the read behind them fails.
-fn print_cut(rt: &HostRuntime, text: &[u8], lines: &[u8], len: usize) -> Result<()> {
-    let (status, written) = served(rt.alloc(), text, front(lines, len), &[])?;
+fn print_cut<R: Threads + Wait + Sync + Print + Files + Alloc>(
+    rt: &R,
+    text: &[u8],
+    lines: &[u8],
+    len: usize,
+) -> Result<()> {
+    let (status, written) = served(rt, text, front(lines, len), &[])?;
     print_served(rt, "the source ends", status, written.as_slice())?;
-    let (status, written) = served(rt.alloc(), text, lines, &[len as u64])?;
+    let (status, written) = served(rt, text, lines, &[len as u64])?;
     print_served(rt, "a read fails", status, written.as_slice())
 }
 
 /// Prints what comes of each prefix of the lines.
-fn print_cuts(rt: &HostRuntime, text: &[u8], lines: &[u8]) -> Result<()> {
+fn print_cuts<R: Threads + Wait + Sync + Print + Files + Alloc>(
+    rt: &R,
+    text: &[u8],
+    lines: &[u8],
+) -> Result<()> {
     for len in 0..lines.len() + 1 {
         println!(rt; "{len} bytes")?;
         print_cut(rt, text, lines, len)?;
@@ -141,16 +171,16 @@ fn print_cuts(rt: &HostRuntime, text: &[u8], lines: &[u8]) -> Result<()> {
 
 /// Whether a failed read behind `len` bytes leaves anything else than the replies to the first `end` bytes, or these aren't a
 /// front of the replies `whole`.
-fn cut_differs(
-    alloc: Global,
+fn cut_differs<R: Threads + Wait + Sync + Print + Files + Alloc>(
+    rt: &R,
     text: &[u8],
     lines: &[u8],
     end: usize,
     len: usize,
     whole: &[u8],
 ) -> Result<bool, AllocError> {
-    let (done, replies) = served(alloc, text, front(lines, end), &[])?;
-    let (failed, written) = served(alloc, text, lines, &[len as u64])?;
+    let (done, replies) = served(rt, text, front(lines, end), &[])?;
+    let (failed, written) = served(rt, text, lines, &[len as u64])?;
     Ok(
         done != Status::Done
             || failed != Status::ReadFault
@@ -161,14 +191,18 @@ fn cut_differs(
 
 /// Whether, at some prefix of the lines, a failed read behind it leaves anything else than the replies to the lines that end in
 /// it, or these aren't a front of the replies to all lines.
-fn has_other_cut(alloc: Global, text: &[u8], lines: &[u8]) -> Result<bool, AllocError> {
-    let (_, whole) = served(alloc, text, lines, &[])?;
+fn has_other_cut<R: Threads + Wait + Sync + Print + Files + Alloc>(
+    rt: &R,
+    text: &[u8],
+    lines: &[u8],
+) -> Result<bool, AllocError> {
+    let (_, whole) = served(rt, text, lines, &[])?;
     let mut end: usize = 0;
     for len in 0..lines.len() + 1 {
         if len > 0 && lines[len - 1] == b'\n' {
             end = len;
         }
-        if cut_differs(alloc, text, lines, end, len, whole.as_slice())? {
+        if cut_differs(rt, text, lines, end, len, whole.as_slice())? {
             return Ok(true);
         }
     }
@@ -192,7 +226,7 @@ fn padded(
 }
 
 /// Lines at the limit of a line, and texts that are longer than a program may be.
-fn print_limits(rt: &HostRuntime) -> Result<()> {
+fn print_limits<R: Threads + Wait + Sync + Print + Files + Alloc>(rt: &R) -> Result<()> {
     let alloc = rt.alloc();
     let sum = joined(rt, "known.ll sum.ll")?;
     let lines = padded(
@@ -223,7 +257,7 @@ fn print_limits(rt: &HostRuntime) -> Result<()> {
 }
 
 /// Serves each prefix of some lines.
-fn print_prefixes(rt: &HostRuntime) -> Result<()> {
+fn print_prefixes<R: Threads + Wait + Sync + Print + Files + Alloc>(rt: &R) -> Result<()> {
     let text = joined(rt, "known.ll sum.ll")?;
     print_cuts(rt, text.as_slice(), b"1 2\n3 4\n5")?;
     let text = joined(rt, "known.ll counted.ll")?;
@@ -237,7 +271,9 @@ fn print_prefixes(rt: &HostRuntime) -> Result<()> {
 }
 
 /// Prints what comes of the sessions.
-pub(crate) fn print_sessions(rt: &HostRuntime) -> Result<()> {
+pub(crate) fn print_sessions<R: Threads + Wait + Sync + Print + Files + Alloc>(
+    rt: &R,
+) -> Result<()> {
     let rows = fs::read_to_string(rt, "sessions.txt")?;
     for row in rows.lines() {
         match row.split_once(" < ") {
@@ -246,7 +282,7 @@ pub(crate) fn print_sessions(rt: &HostRuntime) -> Result<()> {
         }
     }
     print_limits(rt)?;
-    let other = has_other_front(rt.alloc(), joined(rt, SHORTENED)?.as_slice())?;
+    let other = has_other_front(rt, joined(rt, SHORTENED)?.as_slice())?;
     println!(rt; "a proper prefix of {SHORTENED} has another status than 0 and 3: {other}")?;
     print_prefixes(rt)
 }

@@ -4,9 +4,12 @@ ghost use Rattle.std.specs.Prelude.{◌<◌};
 
 use crate::commands::session::SUM;
 use pg_commands::{Status, peregrine};
+use pg_free::Free;
 use pg_io::{MemoryShelf, MemorySink, MemorySource, ShortSink, Sink};
 use std::alloc::{AllocError, Global};
+use std::sync::Wait;
 use std::test::Fail;
+use std::thread::Threads;
 
 /// Three lines. Reads of four bytes give one line each.
 const LINES: &[u8] = b"1 2\n3 4\n5 6\n";
@@ -42,7 +45,8 @@ fn words_of(alloc: Global, line: &str) -> Result<Vec<String>, AllocError> {
 }
 
 /// The status of a command on the program `x` and the lines.
-fn served<K: Sink>(
+fn served<R: Threads + Wait + Sync, K: Sink>(
+    rt: &R,
     alloc: Global,
     line: &str,
     faults: Faults<'_>,
@@ -54,13 +58,25 @@ fn served<K: Sink>(
     files.push((name, SUM.to_vec(alloc)?))?;
     let mut shelf = MemoryShelf::new(alloc, files, faults.fetches.to_vec(alloc)?);
     let mut src = MemorySource::new(LINES.to_vec(alloc)?, 4, faults.reads.to_vec(alloc)?);
-    Ok(peregrine(alloc, &words, &mut src, &mut shelf, out))
+    Ok(peregrine(
+        rt,
+        alloc,
+        &words,
+        &mut src,
+        &mut shelf,
+        out,
+        &mut Free::new(),
+    ))
 }
 
 /// The status of a session and what it wrote, whole pieces alone.
-fn outcome(alloc: Global, faults: Faults<'_>) -> Result<(Status, Vec<u8>), AllocError> {
+fn outcome<R: Threads + Wait + Sync>(
+    rt: &R,
+    alloc: Global,
+    faults: Faults<'_>,
+) -> Result<(Status, Vec<u8>), AllocError> {
     let mut out = MemorySink::new(alloc, 200, faults.writes.to_vec(alloc)?)?;
-    let status = served(alloc, "serve x", faults, &mut out)?;
+    let status = served(rt, alloc, "serve x", faults, &mut out)?;
     Ok((status, out.bytes().to_vec(alloc)?))
 }
 
@@ -68,6 +84,7 @@ fn outcome(alloc: Global, faults: Faults<'_>) -> Result<(Status, Vec<u8>), Alloc
 fn each_read_fails(rt: HostRuntime) -> Result<(), Fail> {
     for k in 0..5 {
         let (status, written) = outcome(
+            &rt,
             rt.alloc(),
             Faults {
                 reads: &[k as u64],
@@ -94,6 +111,7 @@ fn each_read_fails(rt: HostRuntime) -> Result<(), Fail> {
 fn each_write_fails(rt: HostRuntime) -> Result<(), Fail> {
     for k in 0..4 {
         let (status, written) = outcome(
+            &rt,
             rt.alloc(),
             Faults {
                 writes: &[k as u64],
@@ -114,6 +132,7 @@ fn each_write_fails(rt: HostRuntime) -> Result<(), Fail> {
 #[test]
 fn a_fetch_fails(rt: HostRuntime) -> Result<(), Fail> {
     let (status, written) = outcome(
+        &rt,
         rt.alloc(),
         Faults {
             fetches: &[0],
@@ -123,6 +142,7 @@ fn a_fetch_fails(rt: HostRuntime) -> Result<(), Fail> {
     assert_eq!(rt; status, Status::ShelfFault);
     assert!(rt; written.is_empty());
     let (status, written) = outcome(
+        &rt,
         rt.alloc(),
         Faults {
             fetches: &[1],
@@ -139,12 +159,15 @@ fn a_sink_takes_one_byte_a_call(rt: HostRuntime) -> Result<(), Fail> {
     let alloc = rt.alloc();
     let mut out = ShortSink::new(alloc, 200, 1, [5].to_vec(alloc)?)?;
     assert_eq!(rt;
-        served(alloc, "serve x", NONE, &mut out)?,
+        served(&rt, rt.alloc(), "serve x", NONE, &mut out)?,
         Status::WriteFault
     );
     assert_eq!(rt; out.bytes(), b"recor".as_slice());
     let mut out = ShortSink::new(alloc, 200, 1, Vec::new(alloc))?;
-    assert_eq!(rt; served(alloc, "serve x", NONE, &mut out)?, Status::Done);
+    assert_eq!(rt;
+        served(&rt, rt.alloc(), "serve x", NONE, &mut out)?,
+        Status::Done
+    );
     assert_eq!(rt; out.bytes(), REPLIES);
     Ok(())
 }
@@ -158,7 +181,7 @@ fn show_reads_nothing(rt: HostRuntime) -> Result<(), Fail> {
     };
     let mut out = MemorySink::new(alloc, 200, Vec::new(alloc))?;
     assert_eq!(rt;
-        served(alloc, "show x 1 2", faults, &mut out)?,
+        served(&rt, rt.alloc(), "show x 1 2", faults, &mut out)?,
         Status::Done
     );
     assert!(rt;
@@ -167,7 +190,7 @@ fn show_reads_nothing(rt: HostRuntime) -> Result<(), Fail> {
     );
     let mut out = MemorySink::new(alloc, 200, [0].to_vec(alloc)?)?;
     assert_eq!(rt;
-        served(alloc, "show x 1 2", NONE, &mut out)?,
+        served(&rt, rt.alloc(), "show x 1 2", NONE, &mut out)?,
         Status::WriteFault
     );
     assert!(rt; out.bytes().is_empty());

@@ -1,9 +1,12 @@
 //! Long sessions by the top call: runs at the limits of steps, inputs at the limit of bytes, and a trial.
 
 use pg_commands::{Status, peregrine};
+use pg_free::Free;
 use pg_io::{MemoryShelf, MemorySink, MemorySource};
 use std::alloc::{AllocError, Global};
+use std::sync::Wait;
 use std::test::Fail;
+use std::thread::Threads;
 
 /// A thread that counts up to the first number of the input.
 const LOOP: &[u8] = b"declare i64 @pg_in(i64)\n\
@@ -48,7 +51,12 @@ fn words_of(alloc: Global, line: &str) -> Result<Vec<String>, AllocError> {
 }
 
 /// The status of a command on the program `x` and this input, and what it writes.
-fn outcome(alloc: Global, line: &str, input: Vec<u8>) -> Result<(Status, Vec<u8>), AllocError> {
+fn outcome<R: Threads + Wait + Sync>(
+    rt: &R,
+    alloc: Global,
+    line: &str,
+    input: Vec<u8>,
+) -> Result<(Status, Vec<u8>), AllocError> {
     let words = words_of(alloc, line)?;
     let name = String::from_str(alloc, "x")?;
     let mut files = Vec::new(alloc);
@@ -56,7 +64,15 @@ fn outcome(alloc: Global, line: &str, input: Vec<u8>) -> Result<(Status, Vec<u8>
     let mut shelf = MemoryShelf::new(alloc, files, Vec::new(alloc));
     let mut src = MemorySource::new(input, 4_096, Vec::new(alloc));
     let mut out = MemorySink::new(alloc, 400, Vec::new(alloc))?;
-    let status = peregrine(alloc, &words, &mut src, &mut shelf, &mut out);
+    let status = peregrine(
+        rt,
+        alloc,
+        &words,
+        &mut src,
+        &mut shelf,
+        &mut out,
+        &mut Free::new(),
+    );
     Ok((status, out.bytes().to_vec(alloc)?))
 }
 
@@ -68,7 +84,7 @@ fn bytes(alloc: Global, count: usize) -> Result<Vec<u8>, AllocError> {
 fn steps_end(rt: HostRuntime) -> Result<(), Fail> {
     let alloc = rt.alloc();
     let lines = b"166663 1\n166663 0\n1666665 0\n1666666 0\n";
-    let (status, written) = outcome(alloc, "serve x", lines.to_vec(alloc)?)?;
+    let (status, written) = outcome(&rt, rt.alloc(), "serve x", lines.to_vec(alloc)?)?;
     assert_eq!(rt; status, Status::Done);
     assert_eq!(rt;
         written.as_slice(),
@@ -78,7 +94,7 @@ reused 0\nexit 0 after 6 turns\n\
 reused 0\nbudget in thread 1 after 3 turns\n"
             .as_slice()
     );
-    let (status, written) = outcome(alloc, "show x 166663 1", Vec::new(alloc))?;
+    let (status, written) = outcome(&rt, rt.alloc(), "show x 166663 1", Vec::new(alloc))?;
     assert_eq!(rt; status, Status::Done);
     assert_eq!(rt; written.as_slice(), b"refused budget\n".as_slice());
     Ok(())
@@ -87,10 +103,10 @@ reused 0\nbudget in thread 1 after 3 turns\n"
 #[test]
 fn bytes_end(rt: HostRuntime) -> Result<(), Fail> {
     let alloc = rt.alloc();
-    let (status, written) = outcome(alloc, "serve x", bytes(alloc, LIMIT)?)?;
+    let (status, written) = outcome(&rt, rt.alloc(), "serve x", bytes(alloc, LIMIT)?)?;
     assert_eq!(rt; status, Status::Done);
     assert_eq!(rt; written.as_slice(), b"refused line\n".as_slice());
-    let (status, written) = outcome(alloc, "serve x", bytes(alloc, LIMIT + 1)?)?;
+    let (status, written) = outcome(&rt, rt.alloc(), "serve x", bytes(alloc, LIMIT + 1)?)?;
     assert_eq!(rt; status, Status::InputLimit);
     assert!(rt; written.is_empty());
     Ok(())
@@ -99,7 +115,7 @@ fn bytes_end(rt: HostRuntime) -> Result<(), Fail> {
 #[test]
 fn a_trial(rt: HostRuntime) -> Result<(), Fail> {
     let alloc = rt.alloc();
-    let (status, written) = outcome(alloc, "trial 7", Vec::new(alloc))?;
+    let (status, written) = outcome(&rt, rt.alloc(), "trial 7", Vec::new(alloc))?;
     assert_eq!(rt; status, Status::Done);
     assert_eq!(rt;
         written.as_slice(),

@@ -3,9 +3,12 @@
 ghost use Rattle.std.specs.Prelude.{◌<◌};
 
 use pg_commands::{Status, peregrine};
+use pg_free::Free;
 use pg_io::{MemoryShelf, MemorySink, MemorySource};
 use std::alloc::{AllocError, Global};
+use std::sync::Wait;
 use std::test::Fail;
+use std::thread::Threads;
 
 pub(crate) const SUM: &[u8] = b"declare i64 @pg_in(i64)\n\
 declare void @pg_out(i64)\n\
@@ -75,14 +78,26 @@ fn words_of(alloc: Global, line: &str) -> Result<Vec<String>, AllocError> {
 }
 
 /// The status and the written bytes of a row.
-fn outcome(alloc: Global, row: Row<'_>) -> Result<(Status, Vec<u8>), AllocError>
+fn outcome<R: Threads + Wait + Sync>(
+    rt: &R,
+    alloc: Global,
+    row: Row<'_>,
+) -> Result<(Status, Vec<u8>), AllocError>
     requires { 0 < row.piece }
 {
     let words = words_of(alloc, row.line)?;
     let mut src = MemorySource::new(row.text.to_vec(alloc)?, row.piece, row.reads.to_vec(alloc)?);
     let mut shelf = MemoryShelf::new(alloc, Vec::new(alloc), Vec::new(alloc));
     let mut out = MemorySink::new(alloc, 100, row.writes.to_vec(alloc)?)?;
-    let status = peregrine(alloc, &words, &mut src, &mut shelf, &mut out);
+    let status = peregrine(
+        rt,
+        alloc,
+        &words,
+        &mut src,
+        &mut shelf,
+        &mut out,
+        &mut Free::new(),
+    );
     Ok((status, out.bytes().to_vec(alloc)?))
 }
 
@@ -116,7 +131,7 @@ fn runs_once(rt: HostRuntime) -> Result<(), Fail> {
     ];
     for row in rows {
         assert!(rt; row.piece > 0);
-        let (status, written) = outcome(alloc, row)?;
+        let (status, written) = outcome(&rt, rt.alloc(), row)?;
         assert_eq!(rt; status, row.status, "of {}", row.line);
         assert_eq!(rt; written.as_slice(), row.written, "of {}", row.line);
     }

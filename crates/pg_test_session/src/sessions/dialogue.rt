@@ -68,6 +68,7 @@ fn each_reply_is_one_write_before_the_next_read(rt: HostRuntime) -> Result<(), F
     let mut out = Listener { writes: &writes };
     assert_eq!(rt;
         serve(
+            &rt,
             rt.alloc(),
             &mut Sums,
             begin(rt.alloc())?,

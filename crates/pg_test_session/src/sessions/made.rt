@@ -9,6 +9,8 @@ use pg_run::Refusal;
 use pg_session::{Recording, Run, Runner};
 use pg_session_texts::EndLine;
 use std::alloc::{AllocError, Global};
+use std::sync::Wait;
+use std::thread::Threads;
 
 /// What is kept: the length of the input.
 #[derive(Drop)]
@@ -62,7 +64,12 @@ impl Runner for Sums {
     // Nothing is counted: both counts stand at their greatest value.
     ghost counts = { λ _. record { turns = 2 ^ 64 - 1; recordings = 2 ^ 64 - 1 } };
 
-    fn record(&mut self, alloc: Global, input: &[i64]) -> Result<Recording<Length>, AllocError> {
+    fn record<H: Threads + Wait + Sync>(
+        &mut self,
+        _rt: &H,
+        alloc: Global,
+        input: &[i64],
+    ) -> Result<Recording<Length>, AllocError> {
         match input {
             [0, ..] => Ok(Recording::Refused(
                 Refusal::Trap(TrapName::DivideByZero, InstrId(7)),
@@ -78,8 +85,9 @@ impl Runner for Sums {
         }
     }
 
-    fn run_along(
+    fn run_along<H: Threads + Sync>(
         &mut self,
+        _rt: &H,
         alloc: Global,
         entry: &Length,
         input: &[i64],

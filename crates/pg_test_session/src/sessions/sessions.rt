@@ -5,7 +5,9 @@ use crate::sessions::made::Sums;
 use pg_io::{MemorySink, MemorySource};
 use pg_session::{ServeFault, begin, serve};
 use std::alloc::{AllocError, Global};
+use std::sync::Wait;
 use std::test::Fail;
+use std::thread::Threads;
 
 /// What a session writes whose source gives pieces of this many bytes, and where calls fail.
 #[derive(Drop)]
@@ -14,7 +16,8 @@ struct Written {
     text: Vec<u8>,
 }
 
-fn session_of(
+fn session_of<R: Threads + Wait + Sync>(
+    rt: &R,
     alloc: Global,
     input: &[u8],
     piece: usize,
@@ -28,7 +31,7 @@ fn session_of(
     let failing = writes.to_vec(alloc)?;
     let mut out = MemorySink::new(alloc, 4_000, failing)?;
     let first = begin(alloc)?;
-    let end = serve(alloc, &mut Sums, first, &mut src, &mut out);
+    let end = serve(rt, alloc, &mut Sums, first, &mut src, &mut out);
     Ok(Written {
         end,
         text: out.bytes().to_vec(alloc)?,
@@ -81,7 +84,7 @@ fn lines(rt: HostRuntime) -> Result<(), Fail> {
     ];
     for (input, text) in rows {
         for piece in [1, 3, 5_000] {
-            let written = session_of(rt.alloc(), input, piece, &[], &[])?;
+            let written = session_of(&rt, rt.alloc(), input, piece, &[], &[])?;
             assert_eq!(rt; written.end, Ok(()));
             assert_eq!(rt; written.text.as_slice(), text);
         }
@@ -109,10 +112,10 @@ fn long_lines(rt: HostRuntime) -> Result<(), Fail> {
     ];
     for (bytes, text) in rows {
         let mut line = long_line(rt.alloc(), bytes)?;
-        let whole = session_of(rt.alloc(), &line, 5_000, &[], &[])?;
+        let whole = session_of(&rt, rt.alloc(), &line, 5_000, &[], &[])?;
         assert_eq!(rt; whole.text.as_slice(), text);
         line.push(b'\n')?;
-        let ended = session_of(rt.alloc(), &line, 5_000, &[], &[])?;
+        let ended = session_of(&rt, rt.alloc(), &line, 5_000, &[], &[])?;
         assert_eq!(rt; ended.text.as_slice(), text);
     }
     Ok(())
@@ -130,7 +133,7 @@ fn many_numbers(rt: HostRuntime) -> Result<(), Fail> {
         for _ in 1..count {
             line.extend_from_slice(b" 2")?;
         }
-        let written = session_of(rt.alloc(), &line, 100, &[], &[])?;
+        let written = session_of(&rt, rt.alloc(), &line, 100, &[], &[])?;
         assert_eq!(rt; written.text.as_slice(), text);
     }
     Ok(())
@@ -150,7 +153,7 @@ fn faults(rt: HostRuntime) -> Result<(), Fail> {
         (&[1], &[1], Err(ServeFault::ReadFault), RECORDED),
     ];
     for (reads, writes, end, text) in rows {
-        let written = session_of(rt.alloc(), b"3\n4\n", 2, reads, writes)?;
+        let written = session_of(&rt, rt.alloc(), b"3\n4\n", 2, reads, writes)?;
         assert_eq!(rt; written.end, end);
         assert_eq!(rt; written.text.as_slice(), text);
     }
@@ -173,7 +176,7 @@ fn growing_lines(alloc: Global, count: usize) -> Result<Vec<u8>, AllocError> {
 fn youngest_sixteen(rt: HostRuntime) -> Result<(), Fail> {
     let mut lines = growing_lines(rt.alloc(), 17)?;
     lines.extend_from_slice(b"\n3\n3 3\n3 3 3\n\n")?;
-    let written = session_of(rt.alloc(), &lines, 7, &[], &[])?;
+    let written = session_of(&rt, rt.alloc(), &lines, 7, &[], &[])?;
     let replies: [&[u8]; 6] = [
         b"recorded 16\n34\nexit 0 after 3 turns\n",
         b"reused 1\n0\nexit 0 after 4 turns\n",
@@ -195,7 +198,7 @@ fn youngest_sixteen(rt: HostRuntime) -> Result<(), Fail> {
 fn more_than_a_session_takes(rt: HostRuntime) -> Result<(), Fail> {
     let mut input = vec![in rt.alloc(); b'x'; 16_777_216]?;
     input.push(b'\n')?;
-    let longer = session_of(rt.alloc(), &input, 65_536, &[], &[])?;
+    let longer = session_of(&rt, rt.alloc(), &input, 65_536, &[], &[])?;
     assert_eq!(rt; longer.end, Err(ServeFault::InputLimit));
     assert_eq!(rt; longer.text.as_slice(), b"".as_slice());
     Ok(())

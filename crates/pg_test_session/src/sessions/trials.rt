@@ -25,7 +25,7 @@ fn counts(rt: HostRuntime) -> Result<(), Fail> {
         ),
     ];
     for (number, text) in rows {
-        let written = trial(rt.alloc(), &mut Sums, number)?;
+        let written = trial(&rt, rt.alloc(), &mut Sums, number)?;
         assert_eq!(rt; written.as_slice(), text);
     }
     Ok(())

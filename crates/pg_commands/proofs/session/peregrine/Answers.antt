@@ -1,4 +1,5 @@
 use Rattle.std.proofs.Common.{inl, inr, string_bytes}
+use Rattle.std.specs.Option.{option_map}
 use Rattle.pg_commands_words.specs.Commands.{once, serve, show, trial}
 use Rattle.pg_commands.specs.Commands.{by_command}
 use Rattle.pg_commands.proofs.session.peregrine.Goals as goal
@@ -7,21 +8,21 @@ pub returns-in-Ok-Some-Once-clause-ends : goal.returns-in-Ok-Some-Once-clause-en
 returns-in-Ok-Some-Once-clause-ends g c =
     let means = rw c.in-Ok-Some-Once.field-0-0-is at (rw c.in-Ok-Some-Once.field-0-is at c.in-Ok-Some-Once.ensures.some) in
     by_command (once c.in-Ok-Some-Once.command.quantum c.in-Ok-Some-Once.command.numbers.items) means
-    (c.once.ensures.ends (g.F.Shelf.text c.args.shelf.now) (g.F.Shelf.faults c.args.shelf.now))
+    (c.once.ensures.ends (g.F.Shelf.text c.args.shelf.now) (g.F.Shelf.faults c.args.shelf.now) (g.G.FreeCrew.rounds c.args.free.now))
 
 pub returns-in-Ok-Some-Once-clause-usage_calls_nothing : goal.returns-in-Ok-Some-Once-clause-usage_calls_nothing
-returns-in-Ok-Some-Once-clause-usage_calls_nothing g c = λ e. absurd ((c.once.ensures.ends (g.F.Shelf.text c.args.shelf.now) (g.F.Shelf.faults c.args.shelf.now)).no_usage e)
+returns-in-Ok-Some-Once-clause-usage_calls_nothing g c = λ e. absurd ((c.once.ensures.ends (g.F.Shelf.text c.args.shelf.now) (g.F.Shelf.faults c.args.shelf.now) (g.G.FreeCrew.rounds c.args.free.now)).no_usage e)
 
 pub returns-in-Ok-Some-Serve-clause-ends : goal.returns-in-Ok-Some-Serve-clause-ends
 returns-in-Ok-Some-Serve-clause-ends g c =
     let means = rw c.in-Ok-Some-Serve.field-0-0-is at (rw c.in-Ok-Some-Serve.field-0-is at c.in-Ok-Some-Serve.ensures.some) in
-    by_command (serve (string_bytes c.in-Ok-Some-Serve.command.file) c.in-Ok-Some-Serve.command.quantum) means
+    by_command (serve (string_bytes c.in-Ok-Some-Serve.command.file) c.in-Ok-Some-Serve.command.way (option_map string_bytes c.in-Ok-Some-Serve.command.book) c.in-Ok-Some-Serve.command.only c.in-Ok-Some-Serve.command.json) means
     (c.serve.ensures.ends)
 
 pub returns-in-Ok-Some-Show-clause-ends : goal.returns-in-Ok-Some-Show-clause-ends
 returns-in-Ok-Some-Show-clause-ends g c =
     let means = rw c.in-Ok-Some-Show.field-0-0-is at (rw c.in-Ok-Some-Show.field-0-is at c.in-Ok-Some-Show.ensures.some) in
-    by_command (show (string_bytes c.in-Ok-Some-Show.command.file) c.in-Ok-Some-Show.command.quantum c.in-Ok-Some-Show.command.numbers.items) means
+    by_command (show (string_bytes c.in-Ok-Some-Show.command.file) c.in-Ok-Some-Show.command.way c.in-Ok-Some-Show.command.numbers.items) means
     (c.show.ensures.ends (g.S.Source.rest c.args.src.now) (g.S.Source.faults c.args.src.now))
 
 pub returns-in-Ok-Some-Show-clause-usage_calls_nothing : goal.returns-in-Ok-Some-Show-clause-usage_calls_nothing
@@ -31,11 +32,11 @@ pub returns-in-Ok-Some-Trial-clause-ends : goal.returns-in-Ok-Some-Trial-clause-
 returns-in-Ok-Some-Trial-clause-ends g c =
     let means = rw c.in-Ok-Some-Trial.field-0-0-is at (rw c.in-Ok-Some-Trial.field-0-is at c.in-Ok-Some-Trial.ensures.some) in
     by_command (trial c.in-Ok-Some-Trial.number) means
-    (c.trial.ensures.ends (g.F.Shelf.text c.args.shelf.now) (g.F.Shelf.faults c.args.shelf.now) (g.S.Source.rest c.args.src.now) (g.S.Source.faults c.args.src.now))
+    (c.trial.ensures.ends (g.F.Shelf.text c.args.shelf.now) (g.F.Shelf.faults c.args.shelf.now) (g.S.Source.rest c.args.src.now) (g.S.Source.faults c.args.src.now) (g.G.FreeCrew.rounds c.args.free.now))
 
 pub returns-in-Ok-Some-Trial-clause-usage_calls_nothing : goal.returns-in-Ok-Some-Trial-clause-usage_calls_nothing
 returns-in-Ok-Some-Trial-clause-usage_calls_nothing g c =
-    λ e. absurd ((c.trial.ensures.ends (g.F.Shelf.text c.args.shelf.now) (g.F.Shelf.faults c.args.shelf.now) (g.S.Source.rest c.args.src.now) (g.S.Source.faults c.args.src.now)).no_usage e)
+    λ e. absurd ((c.trial.ensures.ends (g.F.Shelf.text c.args.shelf.now) (g.F.Shelf.faults c.args.shelf.now) (g.S.Source.rest c.args.src.now) (g.S.Source.faults c.args.src.now) (g.G.FreeCrew.rounds c.args.free.now)).no_usage e)
 
 pub returns-in-Ok-Some-Once-clause-fault_keeps_sink : goal.returns-in-Ok-Some-Once-clause-fault_keeps_sink
 returns-in-Ok-Some-Once-clause-fault_keeps_sink g c = λ fault. inl (c.once.ensures.keeps fault)
@@ -48,4 +49,21 @@ returns-in-Ok-Some-Trial-clause-fault_keeps_sink g c = λ fault. inl (c.trial.en
 
 pub returns-in-Ok-Some-Serve-clause-fault_keeps_sink : goal.returns-in-Ok-Some-Serve-clause-fault_keeps_sink
 returns-in-Ok-Some-Serve-clause-fault_keeps_sink g c = λ fault.
-    inr (string_bytes c.in-Ok-Some-Serve.command.file, c.in-Ok-Some-Serve.command.quantum, rw c.in-Ok-Some-Serve.field-0-0-is at (rw c.in-Ok-Some-Serve.field-0-is at c.in-Ok-Some-Serve.ensures.some))
+    inr (
+      string_bytes c.in-Ok-Some-Serve.command.file,
+      c.in-Ok-Some-Serve.command.way,
+      option_map string_bytes c.in-Ok-Some-Serve.command.book,
+      c.in-Ok-Some-Serve.command.only,
+      c.in-Ok-Some-Serve.command.json,
+      rw c.in-Ok-Some-Serve.field-0-0-is at (rw c.in-Ok-Some-Serve.field-0-is at c.in-Ok-Some-Serve.ensures.some),
+    )
+
+pub unreachable-in-Ok-Some-Book-requires : goal.unreachable-in-Ok-Some-Book-requires
+unreachable-in-Ok-Some-Book-requires g c =
+    let means = rw c.in-Ok-Some-Book.field-0-0-is at (rw c.in-Ok-Some-Book.field-0-is at c.in-Ok-Some-Book.ensures.some) in
+    let none = means.offered in cc
+
+pub unreachable-in-Ok-Some-Conditions-requires : goal.unreachable-in-Ok-Some-Conditions-requires
+unreachable-in-Ok-Some-Conditions-requires g c =
+    let means = rw c.in-Ok-Some-Conditions.field-0-0-is at (rw c.in-Ok-Some-Conditions.field-0-is at c.in-Ok-Some-Conditions.ensures.some) in
+    let none = means.offered in cc

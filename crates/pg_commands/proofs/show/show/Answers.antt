@@ -5,8 +5,8 @@ use Rattle.pg_commands.proofs.show.show.Goals as goal
 
 pub returns-clause-ends : goal.returns-clause-ends
 returns-clause-ends g c = λ rest reads.
-    show_written _ _ _ _ _ _ _ (record { reads = refl; takes = takes_none rest 0 }) (λ name. stayed _ _ _ (λ e. cc) (c.in-Ok.ensures.counts name))
-    c.in-Ok.ensures.status c.in-Ok.ensures.reply (rw c.deref.ensures.value at c.write_text.ensures)
+    show_written _ _ _ _ _ _ _ (record { reads = refl; takes = takes_none rest 0; crew = c.in-Ok.ensures.others }) (λ name. stayed _ _ _ (λ e. cc) (c.in-Ok.ensures.counts name))
+    c.in-Ok.ensures.status c.in-Ok.ensures.rounds c.in-Ok.ensures.reply (rw c.deref.ensures.value at c.write_text.ensures)
 
 pub returns-clause-keeps : goal.returns-clause-keeps
 returns-clause-keeps g c = handed_on _ _ _ _ _ _ _ c.in-Ok.ensures.status c.write_text.ensures

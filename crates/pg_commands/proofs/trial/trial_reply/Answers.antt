@@ -5,7 +5,7 @@ use Rattle.pg_commands.proofs.trial.trial_reply.Goals as goal
 
 -- the text that was loaded is that of the trial's program
 pub returns-in_ok-trial_text-in-Accepted-clause-reply : goal.returns-in_ok-trial_text-in-Accepted-clause-reply
-returns-in_ok-trial_text-in-Accepted-clause-reply c =
+returns-in_ok-trial_text-in-Accepted-clause-reply g c =
     let p = c.in-Accepted.program in
     let loaded = subst (IsLoaded c.as_bytes.result.now) c.in-Accepted.is c.in_ok-program.ensures in
     record {

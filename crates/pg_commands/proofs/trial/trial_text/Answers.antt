@@ -2,4 +2,4 @@ use Rattle.pg_commands.proofs.TrialEnds.{trial_of}
 use Rattle.pg_commands.proofs.trial.trial_text.Goals as goal
 
 pub returns : goal.returns
-returns c = trial_of _ c.new-runner.result.subject _ _ c.new-runner.ensures.program c.new-runner.ensures.quantum c.in_ok-text.ensures.text.tells
+returns g c = trial_of _ c.new-runner.result.subject _ _ _ c.new-runner.ensures.program c.new-runner.ensures.way c.in_ok-text.ensures.text.tells

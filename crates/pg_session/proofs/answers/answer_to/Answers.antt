@@ -8,22 +8,22 @@ use Rattle.pg_session.proofs.KeptEntries.{on_err, search_stays}
 use Rattle.pg_session.proofs.answers.answer_to.Goals as goal
 
 pub reused-requires-clause-stands : goal.reused-requires-clause-stands
-reused-requires-clause-stands g c =
+reused-requires-clause-stands g c = λ _ _.
     let same = search_stays g.R.Entry.Admits.meaning c.args.cache.now c.find.new.self c.requires.exact c.find.ensures.counts c.find.ensures.stays in
     subst (Stands (g.R.Runner.runs (g.R.Runner.subject c.args.runner.now))) (sym same) c.requires.stands
 
 pub reused-requires-clause-least : goal.reused-requires-clause-least
-reused-requires-clause-least g c =
+reused-requires-clause-least g c = λ _ _.
     let same = search_stays g.R.Entry.Admits.meaning c.args.cache.now c.find.new.self c.requires.exact c.find.ensures.counts c.find.ensures.stays in
     ap (λ k. found (admits_by g.R.Entry.Admits.meaning g.R.Entry.Admits.test) k c.args.input.now) same ∙ sym c.in-Some.ensures.least
 
 pub recorded-requires-clause-stands : goal.recorded-requires-clause-stands
-recorded-requires-clause-stands g c =
+recorded-requires-clause-stands g c = λ _ _.
     let same = search_stays g.R.Entry.Admits.meaning c.args.cache.now c.find.new.self c.requires.exact c.find.ensures.counts c.find.ensures.stays in
     subst (Stands (g.R.Runner.runs (g.R.Runner.subject c.args.runner.now))) (sym same) c.requires.stands
 
 pub recorded-requires-clause-none : goal.recorded-requires-clause-none
-recorded-requires-clause-none g c =
+recorded-requires-clause-none g c = λ _ _.
     let same = search_stays g.R.Entry.Admits.meaning c.args.cache.now c.find.new.self c.requires.exact c.find.ensures.counts c.find.ensures.stays in
     ap (λ k. found (admits_by g.R.Entry.Admits.meaning g.R.Entry.Admits.test) k c.args.input.now) same ∙ sym c.in-None.ensures.least
 

@@ -3,10 +3,10 @@ use Rattle.pg_session.proofs.WrittenSessions.{few_all, keeps, keeps_last, no_lin
 use Rattle.pg_session.proofs.keeping.kept_by.Goals as goal
 
 pub end_line-requires-clause-stands : goal.end_line-requires-clause-stands
-end_line-requires-clause-stands g c = stands_after_all _ _ _ _ _ _ _ _ _ (ap g.R.Runner.runs c.in_ok-take_all.ensures.stays) c.requires.stands c.in_ok-take_all.ensures.all
+end_line-requires-clause-stands g c = λ _ _. stands_after_all _ _ _ _ _ _ _ _ _ (ap g.R.Runner.runs c.in_ok-take_all.ensures.stays) c.requires.stands c.in_ok-take_all.ensures.all
 
 pub end_line-requires-clause-count : goal.end_line-requires-clause-count
-end_line-requires-clause-count g c =
+end_line-requires-clause-count g c = λ _ _.
     let few = few_all _ _ _ _ _ _ _ _ c.in_ok-take_all.ensures.all in
     omega (arith, few, c.requires.few)
 

@@ -38,10 +38,10 @@ returns-then-is_empty-clause-write_count g c = inr (not-fault _ _ c.in_ok-take_a
 -- the end of the source ends a line
 
 pub end_line-requires-clause-stands : goal.end_line-requires-clause-stands
-end_line-requires-clause-stands g c = stands_after_all _ _ _ _ _ _ _ _ _ (ap g.R.Runner.runs c.in_ok-take_all.ensures.stays) c.requires.stands c.in_ok-take_all.ensures.all
+end_line-requires-clause-stands g c = λ _ _. stands_after_all _ _ _ _ _ _ _ _ _ (ap g.R.Runner.runs c.in_ok-take_all.ensures.stays) c.requires.stands c.in_ok-take_all.ensures.all
 
 pub end_line-requires-clause-count : goal.end_line-requires-clause-count
-end_line-requires-clause-count g c =
+end_line-requires-clause-count g c = λ _ _.
     let few = few_all _ _ _ _ _ _ _ _ c.in_ok-take_all.ensures.all in
     omega (arith, few, c.requires.few)
 

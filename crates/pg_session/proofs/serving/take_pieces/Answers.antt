@@ -33,15 +33,15 @@ returns-in-Ok-eq0-clause-takes g c =
 -- a piece came
 
 pub take_piece-requires-clause-stands : goal.take_piece-requires-clause-stands
-take_piece-requires-clause-stands g c = far_stands _ _ _ _ _ _ _ _ _ _ _ (ap g.R.Runner.runs c.loop-taken.invariant.subject) c.requires.stands c.loop-taken.invariant.far
+take_piece-requires-clause-stands g c = λ _ _. far_stands _ _ _ _ _ _ _ _ _ _ _ (ap g.R.Runner.runs c.loop-taken.invariant.subject) c.requires.stands c.loop-taken.invariant.far
 
 pub take_piece-requires-clause-count : goal.take_piece-requires-clause-count
-take_piece-requires-clause-count g c =
+take_piece-requires-clause-count g c = λ _ _.
     let few = far_few _ _ _ _ _ _ _ _ _ _ c.loop-taken.invariant.far in
     grind (arith, common_steps, few, c.requires.few, c.in-Ok.ensures.bound)
 
 pub take_piece-requires-clause-line : goal.take_piece-requires-clause-line
-take_piece-requires-clause-line g c = far_line _ _ _ _ _ _ _ _ _ _ c.loop-taken.invariant.far
+take_piece-requires-clause-line g c = λ _ _. far_line _ _ _ _ _ _ _ _ _ _ c.loop-taken.invariant.far
 
 pub returns-in_err-take_piece-in-Ok-clause-read_fault : goal.returns-in_err-take_piece-in-Ok-clause-read_fault
 returns-in_err-take_piece-in-Ok-clause-read_fault g c = no_read _ _ c.from_residual.ensures.1

@@ -7,12 +7,12 @@ use Rattle.pg_session.proofs.session.take_piece.Goals.{then-byte-eq10+in_ok-end_
 use Rattle.pg_session.proofs.session.take_piece.Goals as goal
 
 pub end_line-requires-clause-stands : goal.end_line-requires-clause-stands
-end_line-requires-clause-stands g c =
+end_line-requires-clause-stands g c = λ _ _.
     subst (λ r. Stands r c.loop-byte.session.cache) (sym (ap g.R.Runner.runs c.loop-byte.invariant.subject))
     (stands_answered _ _ _ _ _ _ _ c.loop-byte.invariant.answered c.requires.stands)
 
 pub end_line-requires-clause-count : goal.end_line-requires-clause-count
-end_line-requires-clause-count g c =
+end_line-requires-clause-count g c = λ _ _.
     let n : c.loop-byte.session.cache.inserted ≤ c.args.session.now.cache.inserted + length (take c.loop-byte.byte-index c.args.piece.now) =
     inserted_within _ _ _ _ c.args.session.now.line.items _ _ _ c.loop-byte.invariant.answered in
     omega (arith, n, c.requires.count, length-take c.loop-byte.byte-index c.args.piece.now)

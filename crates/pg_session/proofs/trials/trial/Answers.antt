@@ -11,13 +11,13 @@ use Rattle.pg_session.proofs.TrialCounts.{few_numbers, if_ok, tallied_all, talli
 use Rattle.pg_session.proofs.trials.trial.Goals as goal
 
 pub answer_to-requires-clause-few : goal.answer_to-requires-clause-few
-answer_to-requires-clause-few g c = subst (λ l. length l ≤ NUMBERS_LIMIT) (sym (c.deref.ensures.value ∙ c.in_ok-input.ensures)) (few_numbers c.args.number c.loop-i.i)
+answer_to-requires-clause-few g c = λ _ _. subst (λ l. length l ≤ NUMBERS_LIMIT) (sym (c.deref.ensures.value ∙ c.in_ok-input.ensures)) (few_numbers c.args.number c.loop-i.i)
 
 pub answer_to-requires-clause-stands : goal.answer_to-requires-clause-stands
-answer_to-requires-clause-stands g c = subst (λ s. Stands (g.R.Runner.runs s) c.loop-i.cache) (sym c.loop-i.invariant.subject) c.loop-i.invariant.tallied.stands
+answer_to-requires-clause-stands g c = λ _ _. subst (λ s. Stands (g.R.Runner.runs s) c.loop-i.cache) (sym c.loop-i.invariant.subject) c.loop-i.invariant.tallied.stands
 
 pub answer_to-requires-clause-count : goal.answer_to-requires-clause-count
-answer_to-requires-clause-count g c = let b = c.loop-i.invariant.tallied.few_kept in omega (arith, b, c.loop-i-test.true)
+answer_to-requires-clause-count g c = λ _ _. let b = c.loop-i.invariant.tallied.few_kept in omega (arith, b, c.loop-i-test.true)
 
 pub loop-i-init : goal.loop-i-init
 loop-i-init g c = record {

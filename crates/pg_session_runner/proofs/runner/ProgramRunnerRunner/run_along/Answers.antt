@@ -1,15 +1,8 @@
-use Rattle.std.proofs.Common.{◌<◌, ◌^◌, List, length, arith, subst, sym}
+use Rattle.std.proofs.Common.{subst, sym}
 use Rattle.pg_session.specs.Sessions.{IsEntryOf}
-use Rattle.pg_session_runner.specs.Runs.{Running, rotating, runs_of}
+use Rattle.pg_session_runner.specs.Runs.{Running, rotating, runs_by}
 use Rattle.pg_session_runner.proofs.runner.ProgramRunnerRunner.run_along.Goals as goal
 
-pub ran-requires : goal.ran-requires
-ran-requires c =
-    let input = c.args.input.now in
-    let entry = c.args.entry.now in
-    let of = subst (λ (s : Running). IsEntryOf (runs_of s.subject.program s.subject.quantum) entry) (sym c.self.view_is) c.requires.entry in
-    let small : length input < 2 ^ 64 = omega (arith, c.requires.few) in
-    record {
-      served = c.each_entry_serves_what_it_admits.ensures.served c.self.inside.program.now (rotating c.self.inside.quantum) input entry
-          (c.self.invariant.can_run entry.input c.own_input_is_small.ensures) of small c.requires.admitted;
-    }
+pub ran_along-requires-clause-entry : goal.ran_along-requires-clause-entry
+ran_along-requires-clause-entry g c =
+    (rotating c.self.inside.quantum, subst (λ (s : Running). IsEntryOf (runs_by s.subject.program s.subject.way) c.args.entry.now) (sym c.self.view_is) c.requires.entry)

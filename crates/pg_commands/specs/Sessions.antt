@@ -1,0 +1,41 @@
+-- How a session of a program ended.
+use Rattle.std.specs.Prelude.{◌≡◌, ℕ, ◌+◌, ◌⊎◌, IsErrOf, OnOk, Result}
+use Rattle.pg_cache.specs.Kept.{Kept}
+use Rattle.pg_ir.specs.Program.{NumberedProgram}
+use Rattle.pg_io.specs.Faults.{Rose}
+use Rattle.pg_io.specs.Streams.{TakesAtMost}
+use Rattle.pg_num.specs.declared.limits.TheConstants.{SESSION_INPUT_LIMIT}
+use Rattle.pg_session.specs.Counts.{RoseBy}
+use Rattle.pg_session.specs.Lines.{lines_of}
+use Rattle.pg_session.specs.Texts.{HasBytes, ServesFront, ServesLimit, ServesTaken}
+use Rattle.pg_session.specs.declared.fault.ServeFault.{ServeFault}
+use Rattle.pg_session.specs.declared.fault.ServeFault.TheVariants as fault
+use Rattle.pg_session_runner.specs.Entries.{EntryParts}
+use Rattle.pg_session_runner.specs.Runs.{Way, entry_admits, runs_by}
+use Rattle.pg_commands.specs.Commands.{CrewChange, ServesMaking, SinkChange, SourceChange}
+
+-- what is told of so many recordings: nothing; or that the crew made as many rounds at least, as far as they are counted
+abbrev pub nothing_told : ℕ → Type 0
+nothing_told recordings = Unit {0}
+
+abbrev pub rounds_told : CrewChange → ℕ → Type 0
+rounds_told crew recordings = RoseBy recordings crew.rounds_before crew.rounds_after
+
+-- a front of the replies to the lines of what the source had
+abbrev pub ServesAFront : NumberedProgram → Way → Kept EntryParts → SourceChange → SinkChange → Type 0
+ServesAFront p way first source sink =
+    HasBytes source.rest_before (λ input. ServesFront entry_admits (runs_by p way) first (lines_of input) sink.taken_before sink.taken_after)
+
+-- a session of the program p, whose inputs are recorded in this way, began with these entries and ended so
+pub record SessionEnds (Makes : ℕ → Type 0) (p : NumberedProgram) (way : Way) (first : Kept EntryParts) (source : SourceChange) (sink : SinkChange) (ended : Result (Unit {0}) ServeFault) : Type 0 where
+  pub done : OnOk ended (HasBytes source.rest_before (ServesMaking Makes p way first sink.taken_before sink.taken_after))
+  pub input_limit : IsErrOf ended fault.InputLimit → HasBytes source.rest_before (ServesLimit entry_admits (runs_by p way) first sink.taken_before sink.taken_after)
+  pub read_fault : IsErrOf ended fault.ReadFault → ServesTaken entry_admits (runs_by p way) first source.rest_before source.rest_after sink.taken_before sink.taken_after
+  pub write_fault : IsErrOf ended fault.WriteFault → ServesAFront p way first source sink
+  pub out_of_memory : IsErrOf ended fault.OutOfMemory → ServesAFront p way first source sink
+  pub read_cause : IsErrOf ended fault.ReadFault → Rose source.reads_before source.reads_after
+  pub read_within : IsErrOf ended fault.ReadFault → TakesAtMost source.rest_before source.rest_after SESSION_INPUT_LIMIT
+  pub read_count : IsErrOf ended fault.ReadFault ⊎ (source.reads_after ≡ source.reads_before)
+  pub write_cause : IsErrOf ended fault.WriteFault → Rose sink.writes_before sink.writes_after
+  pub write_count : IsErrOf ended fault.WriteFault ⊎ (sink.writes_after ≡ sink.writes_before)
+  pub takes : TakesAtMost source.rest_before source.rest_after (SESSION_INPUT_LIMIT + 1)
