@@ -8,6 +8,7 @@ use pg_num::limits::THREAD_LIMIT;
 use pg_worker::Worker;
 
 /// How many turns each of the workers has done.
+#[derive(Drop)]
 pub(crate) struct Done {
     turns: [u64; THREAD_LIMIT as usize],
 }

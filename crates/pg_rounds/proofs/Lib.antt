@@ -1,0 +1,6 @@
+mod TurnSums
+mod RunTurns
+mod WorkerTurns
+mod RunEnds
+mod NextRounds
+mod PrintOrder

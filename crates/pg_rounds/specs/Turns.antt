@@ -1,0 +1,60 @@
+-- The next turn of a run, and when the run is over.
+use Rattle.std.specs.Prelude.{◌≡◌, ℕ, ◌<◌, ◌≤◌, ◌⊎◌, List, length, true, false, Option, Some, None, slice_index_or}
+use Rattle.pg_ir.specs.Program.{NumberedProgram}
+use Rattle.pg_seats.specs.declared.run.Run.{Run}
+use Rattle.pg_worker.specs.declared.worker.Paused.{Paused}
+use Rattle.pg_worker.specs.declared.worker.Worker.{Worker}
+use Rattle.pg_worker.specs.Standing.{HasPaused, is_stopped, next_turn_of}
+
+-- no worker has a turn left
+abbrev pub AreDone : List Worker → Type 0
+AreDone ws = (t : ℕ) (d : Worker) → t < length ws → next_turn_of (slice_index_or ws t d) ≡ None
+
+-- turn g is the next turn of worker t, and those of the others come later
+pub record IsNext (ws : List Worker) (t g : ℕ) : Type 0 where
+  pub within : t < length ws
+  pub own : (d : Worker) → next_turn_of (slice_index_or ws t d) ≡ Some g
+  pub least : (u h : ℕ) (d : Worker) → u < length ws → next_turn_of (slice_index_or ws u d) ≡ Some h → g ≤ h
+
+-- the turn of a worker, and another worker's next turn, if it has one: o is the sooner of them
+abbrev pub IsSooner : Option (ℕ × ℕ) → ℕ → Option ℕ → Option (ℕ × ℕ) → Type 0
+IsSooner None t None o = o ≡ None
+IsSooner None t (Some g) o = o ≡ Some (t, g)
+IsSooner (Some f) t None o = o ≡ Some f
+IsSooner (Some f) t (Some g) o = ((f.1 ≤ g) × (o ≡ Some f)) ⊎ ((g < f.1) × (o ≡ Some (t, g)))
+
+-- the same, and the worker can go on
+pub record IsAwaited (p : NumberedProgram) (ws : List Worker) (t g : ℕ) : Type 0 where
+  pub next : IsNext ws t g
+  pub goes : (d : Worker) → is_stopped p (slice_index_or ws t d) ≡ false
+
+-- the same, and the worker is stopped
+pub record IsHeld (p : NumberedProgram) (ws : List Worker) (t g : ℕ) : Type 0 where
+  pub next : IsNext ws t g
+  pub stopped : (d : Worker) → is_stopped p (slice_index_or ws t d) ≡ true
+
+-- no turn is left, or the owner of the next turn is stopped
+abbrev pub IsOver : NumberedProgram → List Worker → Type 0
+IsOver p ws = AreDone ws ⊎ ((t : ℕ) × (g : ℕ) × IsHeld p ws t g)
+
+-- all turns below this one are done
+abbrev pub IsPast : ℕ → List Worker → Type 0
+IsPast g ws = (t h : ℕ) (d : Worker) → t < length ws → next_turn_of (slice_index_or ws t d) ≡ Some h → g ≤ h
+
+-- each of them paused behind some steps
+abbrev pub HavePaused : Run → List Worker → Type 0
+HavePaused r ws = (t : ℕ) (d : Worker) → t < length ws → (a : Worker) × (why : Paused) × HasPaused r why a (slice_index_or ws t d)
+
+-- they have done no turn
+abbrev pub AreFirst : List Worker → Type 0
+AreFirst ws = (t : ℕ) (d : Worker) → t < length ws → (slice_index_or ws t d).done ≡ 0
+
+-- they are the workers a, and the seats of some were told of turns that are done
+pub record WereTold (a b : List Worker) : Type 0 where
+  pub count : length b ≡ length a
+  pub same : (t : ℕ) (d : Worker) → t < length a → slice_index_or b t d ≡ record (slice_index_or a t d) { seat = (slice_index_or b t d).seat }
+
+-- each has done as many turns as in a, or more
+pub record HaveDone (a b : List Worker) : Type 0 where
+  pub count : length b ≡ length a
+  pub more : (t : ℕ) (d : Worker) → t < length a → (slice_index_or a t d).done ≤ (slice_index_or b t d).done

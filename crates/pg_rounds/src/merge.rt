@@ -1,0 +1,131 @@
+//! The numbers that workers printed, as the text of the run, in the order of its turns.
+
+ghost use Rattle.std.specs.Prelude.{◌≡◌, ◌≤◌, ◌*◌, ◌+◌, ◌++◌, [], IfOk, length, slice_get, slice_index, vec_capacity};
+ghost use Rattle.pg_num.specs.declared.limits.TheConstants.{THREAD_LIMIT};
+ghost use Rattle.pg_law_course.specs.Prints.{ends_line, is_print, output_along, text_of};
+ghost use Rattle.pg_rounds.specs.Prints.{HasRead, numbers_of, numbers_left};
+ghost use Rattle.pg_rounds.specs.declared.merge.TheConstants.{TEXT_LIMIT};
+
+use itoa::Buffer;
+use pg_ir::{InstrId, LibraryCall, Op, Program, ThreadNo};
+use pg_num::limits::THREAD_LIMIT;
+use pg_num::{Width, to_signed};
+use pg_run_trace::{Turn, TurnKind};
+use pg_worker::Worker;
+use std::alloc::{AllocError, Global};
+
+/// The most bytes that a turn prints: a sign, nineteen digits and a line feed.
+pub const TEXT_LIMIT: u32 = 21;
+
+/// Room for what a run along these turns prints.
+///
+/// # Errors
+///
+/// Where no memory is left.
+pub fn reserve(alloc: Global, turns: &[Turn]) -> Result<Vec<u8>, AllocError>
+    ensures { IfOk result (λ v. (v.items ≡ []) × (TEXT_LIMIT * length turns.now ≤ vec_capacity v)) }
+{
+    Vec::with_capacity(alloc, turns.len().saturating_mul(TEXT_LIMIT as usize))
+}
+
+/// Whether a turn prints.
+fn prints(kind: TurnKind) -> bool
+    ensures { result ≡ is_print kind }
+{
+    matches!(kind, TurnKind::Out | TurnKind::Putchar)
+}
+
+/// Whether the print at an instruction ends its line.
+fn ends_line(p: &Program, at: InstrId) -> bool
+    ensures { result ≡ ends_line (slice_get p.now.instrs at.0) }
+{
+    if at.0 >= p.instr_count() {
+        return false;
+    }
+    match &p.instr(at).op {
+        Op::CallLibrary { function, .. } => *function == LibraryCall::PgOut,
+        _ => false,
+    }
+}
+
+/// Appends bytes for which there is room.
+fn append(output: &mut Vec<u8>, bytes: &[u8])
+    requires { length output.old.items + length bytes.now ≤ vec_capacity output.old }
+    ensures items { output.new.items ≡ output.old.items ++ bytes.now }
+    ensures room { vec_capacity output.old ≤ vec_capacity output.new }
+{
+    if let Err(_) = output.extend_from_slice(bytes) {
+        unreachable!();
+    }
+}
+
+/// Appends the text of a number.
+fn append_number(output: &mut Vec<u8>, number: u64, ends_line: bool) {
+    let mut buffer = Buffer::new();
+    append(
+        output,
+        buffer.format(to_signed(Width::W64, number)).as_bytes(),
+    );
+    if ends_line {
+        append(output, b"\n");
+    }
+}
+
+/// Appends what a turn prints, where it prints this number.
+fn append_text(output: &mut Vec<u8>, p: &Program, turn: &Turn, number: u64)
+    requires { length output.old.items + TEXT_LIMIT ≤ vec_capacity output.old }
+    ensures items { output.new.items ≡ output.old.items ++ text_of (slice_get p.now.instrs turn.now.instr.0) turn.now.kind number }
+    ensures room { vec_capacity output.old ≤ vec_capacity output.new }
+{
+    match turn.kind {
+        TurnKind::Out => append_number(output, number, ends_line(p, turn.instr)),
+        TurnKind::Putchar => append(output, &[(number % 256) as u8]),
+        _ => {}
+    }
+}
+
+/// How many of the numbers of each worker were read.
+#[derive(Drop)]
+struct Reader<'a> {
+    workers: &'a [Worker],
+    read: [usize; THREAD_LIMIT as usize],
+}
+
+impl<'a> Reader<'a> {
+    /// The next number of a thread, 0 where none is left.
+    fn next(&mut self, thread: ThreadNo) -> u64 {
+        let t = thread.0 as usize;
+        if t >= self.workers.len() {
+            return 0;
+        }
+        let read = self.read[t];
+        match self.workers[t].prints().get(read).copied() {
+            None => 0,
+            Some(number) => {
+                self.read[t] = read + 1;
+                number
+            }
+        }
+    }
+}
+
+/// What these turns print, where each worker printed its numbers.
+pub(crate) fn merge(p: &Program, turns: &[Turn], workers: &[Worker], output: Vec<u8>) -> Vec<u8>
+    requires few { length workers.now ≤ THREAD_LIMIT }
+    requires empty { output.items ≡ [] }
+    requires room { TEXT_LIMIT * length turns.now ≤ vec_capacity output }
+    ensures { result.items ≡ output_along p.now turns.now (numbers_of workers.now) }
+{
+    let mut output = output;
+    let mut reader = Reader {
+        workers,
+        read: [0; THREAD_LIMIT as usize],
+    };
+    for turn in turns {
+        if prints(turn.kind) {
+            let number = reader.next(turn.thread);
+            append_text(&mut output, p, turn, number);
+        }
+    }
+    output
+}
