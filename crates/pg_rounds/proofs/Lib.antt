@@ -4,3 +4,5 @@ mod WorkerTurns
 mod RunEnds
 mod NextRounds
 mod PrintOrder
+mod Merges
+mod FirstTurns

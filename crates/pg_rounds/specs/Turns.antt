@@ -6,15 +6,27 @@ use Rattle.pg_worker.specs.declared.worker.Paused.{Paused}
 use Rattle.pg_worker.specs.declared.worker.Worker.{Worker}
 use Rattle.pg_worker.specs.Standing.{HasPaused, is_stopped, next_turn_of}
 
+-- of the first n workers none has a turn left
+abbrev pub AreDoneBelow : List Worker → ℕ → Type 0
+AreDoneBelow ws n = (t : ℕ) (d : Worker) → t < n → next_turn_of (slice_index_or ws t d) ≡ None
+
+-- of their next turns that of worker t comes first, and has the number g
+pub record IsFirst (ws : List Worker) (n t g : ℕ) : Type 0 where
+  pub within : t < n
+  pub own : (d : Worker) → next_turn_of (slice_index_or ws t d) ≡ Some g
+  pub least : (u h : ℕ) (d : Worker) → u < n → next_turn_of (slice_index_or ws u d) ≡ Some h → g ≤ h
+
+abbrev pub IsFirstOf : List Worker → ℕ → Option (ℕ × ℕ) → Type 0
+IsFirstOf ws n None = AreDoneBelow ws n
+IsFirstOf ws n (Some x) = IsFirst ws n x.0 x.1
+
 -- no worker has a turn left
 abbrev pub AreDone : List Worker → Type 0
-AreDone ws = (t : ℕ) (d : Worker) → t < length ws → next_turn_of (slice_index_or ws t d) ≡ None
+AreDone ws = AreDoneBelow ws (length ws)
 
 -- turn g is the next turn of worker t, and those of the others come later
-pub record IsNext (ws : List Worker) (t g : ℕ) : Type 0 where
-  pub within : t < length ws
-  pub own : (d : Worker) → next_turn_of (slice_index_or ws t d) ≡ Some g
-  pub least : (u h : ℕ) (d : Worker) → u < length ws → next_turn_of (slice_index_or ws u d) ≡ Some h → g ≤ h
+abbrev pub IsNext : List Worker → ℕ → ℕ → Type 0
+IsNext ws t g = IsFirst ws (length ws) t g
 
 -- the turn of a worker, and another worker's next turn, if it has one: o is the sooner of them
 abbrev pub IsSooner : Option (ℕ × ℕ) → ℕ → Option ℕ → Option (ℕ × ℕ) → Type 0

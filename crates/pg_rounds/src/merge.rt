@@ -1,9 +1,11 @@
 //! The numbers that workers printed, as the text of the run, in the order of its turns.
 
-ghost use Rattle.std.specs.Prelude.{◌≡◌, ◌≤◌, ◌*◌, ◌+◌, ◌++◌, [], IfOk, length, slice_get, slice_index, vec_capacity};
+ghost use Rattle.std.specs.Prelude.{◌≡◌, ◌≤◌, ◌*◌, ◌+◌, ◌++◌, [], IfOk, length, slice_get, slice_index, vec_capacity, ℕ};
 ghost use Rattle.pg_num.specs.declared.limits.TheConstants.{THREAD_LIMIT};
-ghost use Rattle.pg_law_course.specs.Prints.{ends_line, is_print, output_along, text_of};
-ghost use Rattle.pg_rounds.specs.Prints.{HasRead, numbers_of, numbers_left};
+ghost use Rattle.pg_ir.specs.declared.request.Request.TheVariants as requests;
+ghost use Rattle.pg_run.specs.Texts.{printed_by};
+ghost use Rattle.pg_law_course.specs.Prints.{ends_line, is_print, output_along, text_of, without_first};
+ghost use Rattle.pg_rounds.specs.Prints.{numbers_left, numbers_of};
 ghost use Rattle.pg_rounds.specs.declared.merge.TheConstants.{TEXT_LIMIT};
 
 use itoa::Buffer;
@@ -60,7 +62,11 @@ fn append(output: &mut Vec<u8>, bytes: &[u8])
 }
 
 /// Appends the text of a number.
-fn append_number(output: &mut Vec<u8>, number: u64, ends_line: bool) {
+fn append_number(output: &mut Vec<u8>, number: u64, ends_line: bool)
+    requires { length output.old.items + TEXT_LIMIT ≤ vec_capacity output.old }
+    ensures items { output.new.items ≡ output.old.items ++ printed_by (requests.Out number ends_line) }
+    ensures room { vec_capacity output.old ≤ vec_capacity output.new }
+{
     let mut buffer = Buffer::new();
     append(
         output,
@@ -93,7 +99,13 @@ struct Reader<'a> {
 
 impl<'a> Reader<'a> {
     /// The next number of a thread, 0 where none is left.
-    fn next(&mut self, thread: ThreadNo) -> u64 {
+    fn next(&mut self, thread: ThreadNo) -> u64
+        requires few { length self.old.workers.now ≤ THREAD_LIMIT }
+        requires reads { length self.old.read ≡ THREAD_LIMIT }
+        ensures number { result ≡ slice_index (numbers_left self.old.workers.now self.old.read thread.0) 0 }
+        ensures rest { (t : ℕ) → numbers_left self.new.workers.now self.new.read t ≡ without_first thread.0 (numbers_left self.old.workers.now self.old.read) t }
+        ensures same { (self.new.workers ≡ self.old.workers) × (length self.new.read ≡ length self.old.read) }
+    {
         let t = thread.0 as usize;
         if t >= self.workers.len() {
             return 0;
