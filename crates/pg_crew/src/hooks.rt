@@ -26,15 +26,25 @@ impl Hook for AnyHook {
     }
 }
 
-/// A segment of a worker, with its hook; past the end of the list with none.
+/// A segment of a worker with a hook.
+fn segment<H: Hook>(hook: &H, shared: &Shared<'_>, worker: &mut Worker)
+    requires at { IsAt (run_in shared.now) (table_in shared.now) 0 worker.old }
+    requires gated { shared.now.gated ≡ shared.now.schedule.now.gated }
+    ensures at { IsAt (run_in shared.now) (table_in shared.now) 0 worker.new }
+    ensures gone { HasGone (run_in shared.now) worker.old worker.new }
+{
+    worker.segment(shared, hook);
+}
+
+/// A segment of a worker with its hook; past the end of the list with none.
 pub(crate) fn go_on(hooks: &[AnyHook], index: usize, shared: &Shared<'_>, worker: &mut Worker)
     requires at { IsAt (run_in shared.now) (table_in shared.now) 0 worker.old }
     requires gated { shared.now.gated ≡ shared.now.schedule.now.gated }
     ensures at { IsAt (run_in shared.now) (table_in shared.now) 0 worker.new }
     ensures gone { HasGone (run_in shared.now) worker.old worker.new }
 {
-    let _paused = match hooks.get(index) {
-        Some(hook) => worker.segment(shared, hook),
-        None => worker.segment(shared, &NoHook),
-    };
+    match hooks.get(index) {
+        Some(hook) => segment(hook, shared, worker),
+        None => segment(&NoHook, shared, worker),
+    }
 }

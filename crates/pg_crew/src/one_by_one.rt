@@ -2,7 +2,7 @@
 
 ghost use Rattle.std.specs.Prelude.{◌≡◌};
 ghost use denote.Param.Send.{IsSync};
-ghost use Rattle.pg_crew.specs.Workers.{AreWorkers, HaveGone};
+ghost use Rattle.pg_crew.specs.Workers.{AreWorkers, HaveGone, counted, turns_between};
 ghost use Rattle.pg_worker.specs.Standing.{run_in, table_in};
 
 use crate::counts::Done;
@@ -55,13 +55,24 @@ fn in_turn(hooks: &[AnyHook], shared: &Shared<'_>, workers: &mut [Worker])
     }
 }
 
+/// A round. Gives the count behind it.
+fn counted_round(hooks: &[AnyHook], count: u64, shared: &Shared<'_>, workers: &mut [Worker]) -> u64
+    requires gated { shared.now.gated ≡ shared.now.schedule.now.gated }
+    requires workers { AreWorkers (run_in shared.now) (table_in shared.now) workers.old }
+    ensures workers { AreWorkers (run_in shared.now) (table_in shared.now) workers.new }
+    ensures gone { HaveGone (run_in shared.now) workers.old workers.new }
+    ensures counts { result ≡ counted count (turns_between workers.old workers.new) }
+{
+    let before = Done::of(workers);
+    in_turn(hooks, shared, workers);
+    before.counted(count, workers)
+}
+
 impl Crew for OneByOne {
     ghost turns = { λ c. c };
 
     fn round<R: Threads + Sync>(&mut self, rt: &R, shared: &Shared<'_>, workers: &mut [Worker]) {
         let _rt = rt;
-        let before = Done::of(workers);
-        in_turn(self.hooks.as_slice(), shared, workers);
-        self.turns = before.counted(self.turns, workers);
+        self.turns = counted_round(self.hooks.as_slice(), self.turns, shared, workers);
     }
 }

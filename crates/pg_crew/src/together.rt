@@ -2,7 +2,7 @@
 
 ghost use Rattle.std.specs.Prelude.{◌≡◌, ◌<◌, ◌≤◌, ℕ, length, slice_index_or};
 ghost use denote.Param.Send.{IsSync};
-ghost use Rattle.pg_crew.specs.Workers.{AreWorkers, HasGone, HaveGone};
+ghost use Rattle.pg_crew.specs.Workers.{AreWorkers, HasGone, HaveGone, counted, turns_between};
 ghost use Rattle.pg_worker.specs.Standing.{IsAt, run_in, table_in};
 
 use crate::counts::Done;
@@ -72,12 +72,29 @@ fn in_threads<R: Threads + Sync>(
     }
 }
 
+/// A round. Gives the count behind it.
+fn counted_round<R: Threads + Sync>(
+    rt: &R,
+    hooks: &[AnyHook],
+    count: u64,
+    shared: &Shared<'_>,
+    workers: &mut [Worker],
+) -> u64
+    requires gated { shared.now.gated ≡ shared.now.schedule.now.gated }
+    requires workers { AreWorkers (run_in shared.now) (table_in shared.now) workers.old }
+    ensures workers { AreWorkers (run_in shared.now) (table_in shared.now) workers.new }
+    ensures gone { HaveGone (run_in shared.now) workers.old workers.new }
+    ensures counts { result ≡ counted count (turns_between workers.old workers.new) }
+{
+    let before = Done::of(workers);
+    in_threads(rt, hooks, shared, workers);
+    before.counted(count, workers)
+}
+
 impl Crew for Together {
     ghost turns = { λ c. c };
 
     fn round<R: Threads + Sync>(&mut self, rt: &R, shared: &Shared<'_>, workers: &mut [Worker]) {
-        let before = Done::of(workers);
-        in_threads(rt, self.hooks.as_slice(), shared, workers);
-        self.turns = before.counted(self.turns, workers);
+        self.turns = counted_round(rt, self.hooks.as_slice(), self.turns, shared, workers);
     }
 }

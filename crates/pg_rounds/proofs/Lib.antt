@@ -2,7 +2,9 @@ mod TurnSums
 mod RunTurns
 mod WorkerTurns
 mod RunEnds
+mod Notes
 mod NextRounds
 mod PrintOrder
 mod Merges
 mod FirstTurns
+mod Results

@@ -14,7 +14,7 @@ use Rattle.pg_worker.specs.declared.worker.Paused.TheVariants as pauses
 use Rattle.pg_worker.specs.declared.worker.Worker.{Worker}
 use Rattle.pg_worker.specs.Standing.{HasPaused, IsAt, is_stopped, next_turn_of}
 use Rattle.pg_crew.specs.Workers.{AreWorkers, HasGone, HaveGone, counted, done_by, turns_between, turns_of_first}
-use Rattle.pg_crew.proofs.WorkerLists.{counted_more, done_of}
+use Rattle.pg_crew.proofs.WorkerLists.{counted_more, default_is, done_of}
 use Rattle.pg_rounds.specs.Turns.{AreFirst, HaveDone, HavePaused, IsAwaited, IsHeld, IsNext, IsOver, IsPast, WereTold}
 use Rattle.pg_rounds.proofs.TurnSums.{turns_more, turns_same}
 use Rattle.pg_rounds.proofs.WorkerTurns.{earlier, later, next_owned}
@@ -27,12 +27,6 @@ told_next p a b t g n h = record {
   own = λ d. ap next_turn_of (h.same t d n.within) ∙ n.own d;
   least = λ u k d lt e. (let c = h.count in let l : u < length a = omega (arith, lt, c) in n.least u k d l (sym (ap next_turn_of (h.same u d l)) ∙ e));
 }
-
--- an element that is there is the same for each default
-default_is : (xs : List Worker) (i : ℕ) (x y : Worker) → i < length xs → slice_index_or xs i x ≡ slice_index_or xs i y
-default_is [] i x y lt = absurd (omega (arith, lt))
-default_is (z ∷ zs) zero x y lt = refl
-default_is (z ∷ zs) (suc i) x y lt = default_is zs i x y (omega (arith, lt))
 
 -- ---- a round
 

@@ -1,6 +1,6 @@
 //! Rounds, until the run is over.
 
-ghost use Rattle.std.specs.Prelude.{◌≡◌, ◌≤◌, ◌*◌, ◌⊎◌, [], length, suc, ℕ, slice_index_or, vec_capacity};
+ghost use Rattle.std.specs.Prelude.{◌≡◌, ◌≢◌, ◌<◌, ◌≤◌, ◌*◌, ◌⊎◌, [], length, suc, ℕ, slice_index_or, vec_capacity};
 ghost use denote.Param.Send.{IsSync};
 ghost use Rattle.pg_crew.specs.Workers.{AreWorkers, HaveEnded, counted, turns_between};
 ghost use Rattle.pg_law_order.specs.Served.{guided_along};
@@ -22,6 +22,19 @@ use pg_run::GuidedEnd;
 use pg_worker::{Shared, Worker};
 use std::thread::Threads;
 
+/// One worker tells another of the turns that its seat knows to be done.
+fn tell(shared: &Shared<'_>, workers: &mut [Worker], from: usize, to: usize)
+    requires workers { AreWorkers (run_in shared.now) (table_in shared.now) workers.old }
+    requires within { (from < length workers.old) × (to < length workers.old) }
+    requires apart { from ≢ to }
+    ensures workers { AreWorkers (run_in shared.now) (table_in shared.now) workers.new }
+    ensures told { WereTold workers.old workers.new }
+    ensures knows { (d : WorkerData) → seen_of (slice_index_or workers.old from d).seat.me.0 ≤ seen_of (slice_index_or workers.new to d).seat.me.0 }
+{
+    let note = workers[from].note(shared);
+    workers[to].take_note(shared, note);
+}
+
 /// The owner of the turn before this one, which is done, tells the turn's owner that it is due.
 fn hand_on(shared: &Shared<'_>, workers: &mut [Worker], owner: usize, number: u64)
     requires workers { AreWorkers (run_in shared.now) (table_in shared.now) workers.old }
@@ -33,12 +46,10 @@ fn hand_on(shared: &Shared<'_>, workers: &mut [Worker], owner: usize, number: u6
     if number == 0 {
         return;
     }
-    let before = shared.schedule.turns.as_slice()[(number - 1) as usize]
-        .thread
-        .0 as usize;
+    let turn = shared.schedule.turns.as_slice()[(number - 1) as usize];
+    let before = turn.thread.0 as usize;
     if before != owner {
-        let note = workers[before].note(shared);
-        workers[owner].take_note(shared, note);
+        tell(shared, workers, before, owner);
     }
 }
 
