@@ -1,10 +1,18 @@
 -- The first of the workers' next turns.
-use Rattle.std.proofs.Common.{◌≡◌, ℕ, suc, ◌<◌, ◌≤◌, ◌⊎◌, inl, inr, List, Option, Some, None, refl, sym, ◌∙◌, ap, subst, arith}
-use Rattle.std.specs.Prelude.{slice_index_or}
+use Rattle.std.proofs.Common.{◌≡◌, ℕ, suc, ◌+◌, ◌<◌, ◌≤◌, ◌⊎◌, inl, inr, List, length, Bool, true, false, Option, Some, None, refl, sym, ◌∙◌, ap, subst, arith}
+use Rattle.std.specs.Prelude.{◌==◌, ◌||◌, not, IfNone, IfSome, slice_index_or, if◌then◌else◌}
 use Rattle.std.proofs.lemmas.Bool.{cases_lt}
+use Rattle.pg_ir.specs.declared.ids.ThreadNo.{ThreadNo}
+use Rattle.pg_ir.specs.Program.{NumberedProgram}
+use Rattle.pg_run.specs.declared.guided_end.GuidedEnd.TheVariants as ends
+use Rattle.pg_run_thread.specs.declared.action.Action.{Action}
+use Rattle.pg_run_thread.specs.declared.action.Action.TheVariants as actions
+use Rattle.pg_run_thread.specs.Step.{next}
+use Rattle.pg_run_thread.specs.Told.{id_of}
+use Rattle.pg_law_course.specs.Rests.{is_trap, trap_end}
 use Rattle.pg_worker.specs.declared.worker.Worker.{Worker}
-use Rattle.pg_worker.specs.Standing.{next_turn_of}
-use Rattle.pg_rounds.specs.Turns.{IsFirst, IsFirstOf, IsSooner}
+use Rattle.pg_worker.specs.Standing.{end_by, is_stopped, next_turn_of}
+use Rattle.pg_rounds.specs.Turns.{AreDone, IsFirst, IsFirstOf, IsNext, IsSooner, is_strayed}
 
 -- a place below the next is below this one, or is this one
 either : (t n : ℕ) → t < suc n → (t < n) ⊎ (t ≡ n)
@@ -57,12 +65,47 @@ module _ (ws : List Worker) (n : ℕ) where
       go u h d k (inl l) = f.least u h d l k
       go u h d k (inr q) = later u h d q k
 
-  pub first_more : (found : Option (ℕ × ℕ)) (next : Option ℕ) (o : Option (ℕ × ℕ)) → IsFirstOf ws n found → HasNext next → IsSooner found n next o → IsFirstOf ws (suc n) o
-  first_more None None o f e s = subst (IsFirstOf ws (suc n)) (sym s) (none_more f e)
-  first_more None (Some g) o f e s = subst (IsFirstOf ws (suc n)) (sym s)
+  more_of : (found : Option (ℕ × ℕ)) (next : Option ℕ) (o : Option (ℕ × ℕ)) → IsFirstOf ws n found → HasNext next → IsSooner found n next o → IsFirstOf ws (suc n) o
+  more_of None None o f e s = subst (IsFirstOf ws (suc n)) (sym s) (none_more f e)
+  more_of None (Some g) o f e s = subst (IsFirstOf ws (suc n)) (sym s)
       (first_here g e (λ u h d lt k. (let both : Path (Option ℕ) None (Some h) = sym (f u d lt) ∙ k in absurd cc)))
-  first_more (Some x) None o f e s = subst (IsFirstOf ws (suc n)) (sym s) (first_stays x.0 x.1 f (λ u h d q k. absurd (no_number e u h d q k)))
-  first_more (Some x) (Some g) o f e (inl s) = subst (IsFirstOf ws (suc n)) (sym s.1)
+  more_of (Some x) None o f e s = subst (IsFirstOf ws (suc n)) (sym s) (first_stays x.0 x.1 f (λ u h d q k. absurd (no_number e u h d q k)))
+  more_of (Some x) (Some g) o f e (inl s) = subst (IsFirstOf ws (suc n)) (sym s.1)
       (first_stays x.0 x.1 f (λ u h d q k. (let m = number_is g e u h d q k in let l = s.0 in omega (arith, m, l))))
-  first_more (Some x) (Some g) o f e (inr s) = subst (IsFirstOf ws (suc n)) (sym s.1)
+  more_of (Some x) (Some g) o f e (inr s) = subst (IsFirstOf ws (suc n)) (sym s.1)
       (first_here g e (λ u h d lt k. (let m = f.least u h d lt k in let l = s.0 in omega (arith, m, l))))
+
+  pub first_more : (found : Option (ℕ × ℕ)) (next : Option ℕ) (o : Option (ℕ × ℕ)) → IsFirstOf ws n found → HasNext next → IsSooner found n next o → IsFirstOf ws (n + 1) o
+  first_more found next o f e s = subst (λ (m : ℕ). IsFirstOf ws m o) (let q : suc n ≡ n + 1 = omega arith in q) (more_of found next o f e s)
+
+-- behind all of them
+pub first_of_all : (ws : List Worker) (n : ℕ) (found : Option (ℕ × ℕ)) → IsFirstOf ws n found → n ≡ length ws → IsFirstOf ws (length ws) found
+first_of_all ws n found f q = subst (λ (m : ℕ). IsFirstOf ws m found) q f
+
+pub none_is : (ws : List Worker) (found : Option (ℕ × ℕ)) → IsFirstOf ws (length ws) found → IfNone found (AreDone ws)
+none_is ws None f = f
+none_is ws (Some x) f = tt
+
+pub some_is : (ws : List Worker) (found : Option (ℕ × ℕ)) → IsFirstOf ws (length ws) found → IfSome found (λ (x : ℕ × ℕ). IsNext ws x.0 x.1)
+some_is ws None f = tt
+some_is ws (Some x) f = f
+
+-- ---- a worker that is stopped has an end
+
+tells : (b : Bool) (t : ThreadNo) (id : ℕ) (a : Action) → not (is_strayed (if b then ends.Budget t else trap_end id a)) ≡ (is_trap a || b)
+tells true t id a = go (is_trap a)
+  where
+    go : (c : Bool) → true ≡ (c || true)
+    go true = refl
+    go false = refl
+tells false t id (actions.Trap name) = refl
+tells false t id actions.Local = refl
+tells false t id (actions.In i) = refl
+tells false t id actions.InLen = refl
+tells false t id (actions.Load q) = refl
+tells false t id (actions.Store q n) = refl
+tells false t id (actions.Event q) = refl
+tells false t id actions.Ended = refl
+
+pub end_tells : (p : NumberedProgram) (w : Worker) → not (is_strayed (end_by p w)) ≡ is_stopped p w
+end_tells p w = tells (w.left == 0) w.thread (id_of w.fiber) (next p w.fiber)

@@ -195,3 +195,66 @@ pub counted_both : (a b c : List Worker) (first then last : ℕ) → HaveDone a 
     → last ≡ counted first (turns_between a c)
 counted_both a b c first then last f h e q =
     q ∙ ap (λ (n : ℕ). counted n (turns_between b c)) e ∙ counted_more first (turns_between a b) (turns_between b c) ∙ ap (counted first) (between_both a b c f h)
+
+-- ---- a round in which the owner of the next turn was told
+
+module _ (r : Run) (table : TableId) (before mid now : List Worker) (are_mid : AreWorkers r table mid) (are_now : AreWorkers r table now) (told : WereTold before mid) (gone : HaveGone r mid now) where
+  pub round_paused : HavePaused r now
+  round_paused = gone_paused r table mid now are_mid are_now gone
+
+  pub round_done : HaveDone before now
+  round_done = done_both before mid now (told_done before mid told) (gone_done r table mid now are_mid are_now gone)
+
+  pub round_counts : (count more : ℕ) → more ≡ counted count (turns_between mid now) → more ≡ counted count (turns_between before now)
+  round_counts count more e = e ∙ ap (counted count) (sym (between_told before mid now told))
+
+  pub round_gets_on : (t g : ℕ) → IsAwaited r.program before t g → ((d : Worker) → g ≤ seen_of (slice_index_or mid t d).seat.me.0) → IsOver r.program now ⊎ IsPast (suc g) now
+  round_gets_on t g awaited due =
+      let next = told_next r.program before mid t g awaited.next told in
+      let d = get_length mid t next.within in
+      gets_on r table mid now are_mid are_now gone t g d.0 next (due d.0)
+
+-- ---- rounds
+
+-- a run that is over awaits no turn
+not_over : (r : Run) (table : TableId) (ws : List Worker) → AreWorkers r table ws → (t g : ℕ) → IsAwaited r.program ws t g → IsOver r.program ws → ⊥
+not_over r table ws are t g a over = by (get_length ws t a.next.within) over
+  where
+    by : (d : Worker) × (slice_get ws t ≡ Some d) → IsOver r.program ws → ⊥
+    by d (inl done) = let k : Path (Option ℕ) None (Some g) = sym (done t d.0 a.next.within) ∙ a.next.own d.0 in cc
+    by d (inr h) =
+        let held = h.1.1 in
+        let first = a.next.least h.0 h.1.0 d.0 held.next.within (held.next.own d.0) in
+        let second = held.next.least t g d.0 a.next.within (a.next.own d.0) in
+        let same : h.1.0 ≡ g = omega (arith, first, second) in
+        let mine = next_owned r table (slice_index_or ws t d.0) (are.at t d.0 a.next.within) g (a.next.own d.0) ∙ ap (λ (i : ℕ). Some i) (are.thread t d.0 a.next.within) in
+        let its = next_owned r table (slice_index_or ws h.0 d.0) (are.at h.0 d.0 held.next.within) h.1.0 (held.next.own d.0) ∙ ap (λ (i : ℕ). Some i) (are.thread h.0 d.0 held.next.within) in
+        let both : Path (Option ℕ) (Some h.0) (Some t) = sym its ∙ ap (slice_get (owners_of r.schedule.turns)) same ∙ mine in
+        let own : h.0 ≡ t = cc in
+        let k : true ≡ false = sym (held.stopped d.0) ∙ ap (λ (i : ℕ). is_stopped r.program (slice_index_or ws i d.0)) own ∙ a.goes d.0 in
+        cc
+
+pub past_first : (ws : List Worker) → IsPast 0 ws
+past_first ws t h d lt e = omega arith
+
+-- behind a round of the rounds one turn more is done
+pub past_more : (r : Run) (table : TableId) (ws now : List Worker) → AreWorkers r table ws → (i t g : ℕ) → IsAwaited r.program ws t g → IsOver r.program ws ⊎ IsPast i ws
+    → IsOver r.program now ⊎ IsPast (suc g) now → IsOver r.program now ⊎ IsPast (i + 1) now
+past_more r table ws now are i t g a (inl over) h = absurd (not_over r table ws are t g a over)
+past_more r table ws now are i t g a (inr past) (inl over) = inl over
+past_more r table ws now are i t g a (inr past) (inr more) = inr (λ u k e lt q. (let m = more u k e lt q in let p = from (get_length ws t a.next.within) in omega (arith, m, p)))
+  where
+    from : (d : Worker) × (slice_get ws t ≡ Some d) → i ≤ g
+    from d = past t g d.0 a.next.within (a.next.own d.0)
+
+-- so behind as many as the schedule has turns the run is over
+pub past_all : (r : Run) (table : TableId) (ws : List Worker) → AreWorkers r table ws → (i : ℕ) → i ≡ length (owners_of r.schedule.turns) → IsOver r.program ws ⊎ IsPast i ws → IsOver r.program ws
+past_all r table ws are i q (inl over) = over
+past_all r table ws are i q (inr past) = inl (λ t d lt. by t d lt (next_turn_of (slice_index_or ws t d)) refl)
+  where
+    by : (t : ℕ) (d : Worker) → t < length ws → (o : Option ℕ) → next_turn_of (slice_index_or ws t d) ≡ o → next_turn_of (slice_index_or ws t d) ≡ None
+    by t d lt None e = e
+    by t d lt (Some h) e =
+        let within = slice_get_within (owners_of r.schedule.turns) h _ (next_owned r table (slice_index_or ws t d) (are.at t d lt) h e) in
+        let late = past t h d lt e in
+        absurd (omega (arith, within, late, q))

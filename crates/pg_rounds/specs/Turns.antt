@@ -1,6 +1,8 @@
 -- The next turn of a run, and when the run is over.
-use Rattle.std.specs.Prelude.{◌≡◌, ℕ, ◌<◌, ◌≤◌, ◌⊎◌, List, length, true, false, Option, Some, None, slice_index_or}
+use Rattle.std.specs.Prelude.{◌≡◌, ℕ, ◌<◌, ◌≤◌, ◌⊎◌, List, length, Bool, true, false, Option, Some, None, slice_index_or}
 use Rattle.pg_ir.specs.Program.{NumberedProgram}
+use Rattle.pg_run.specs.declared.guided_end.GuidedEnd.{GuidedEnd}
+use Rattle.pg_run.specs.declared.guided_end.GuidedEnd.TheVariants as ends
 use Rattle.pg_seats.specs.declared.run.Run.{Run}
 use Rattle.pg_worker.specs.declared.worker.Paused.{Paused}
 use Rattle.pg_worker.specs.declared.worker.Worker.{Worker}
@@ -44,6 +46,11 @@ pub record IsAwaited (p : NumberedProgram) (ws : List Worker) (t g : ℕ) : Type
 pub record IsHeld (p : NumberedProgram) (ws : List Worker) (t g : ℕ) : Type 0 where
   pub next : IsNext ws t g
   pub stopped : (d : Worker) → is_stopped p (slice_index_or ws t d) ≡ true
+
+-- no end of a worker that is stopped
+abbrev pub is_strayed : GuidedEnd → Bool
+is_strayed ends.Strayed = true
+is_strayed end = false
 
 -- no turn is left, or the owner of the next turn is stopped
 abbrev pub IsOver : NumberedProgram → List Worker → Type 0

@@ -3,8 +3,8 @@
 ghost use Rattle.std.specs.Prelude.{◌≡◌, ◌<◌, IfNone, IfSome, Some, false, length, slice_index_or, true, ℕ};
 ghost use Rattle.pg_run_thread.specs.States.{IsOf};
 ghost use Rattle.pg_worker.specs.declared.worker.Worker.{Worker as WorkerData};
-ghost use Rattle.pg_worker.specs.Standing.{end_by, is_stopped};
-ghost use Rattle.pg_rounds.specs.Turns.{AreDone, IsAwaited, IsNext, IsOver, IsSooner};
+ghost use Rattle.pg_worker.specs.Standing.{is_stopped};
+ghost use Rattle.pg_rounds.specs.Turns.{AreDone, IsAwaited, IsNext, IsOver, IsSooner, is_strayed};
 
 use pg_ir::Program;
 use pg_run::GuidedEnd;
@@ -33,16 +33,22 @@ fn sooner(found: Option<(usize, u64)>, t: usize, next: Option<u64>) -> Option<(u
     }
 }
 
-/// The end of the run where this worker owns the next turn, if it is stopped.
-fn end_of(p: &Program, worker: &Worker) -> Option<GuidedEnd>
-    requires { IsOf p.now worker.now.fiber }
-    ensures goes { IfNone result (is_stopped p.now worker.now ≡ false) }
-    ensures stopped { IfSome result (λ e. (is_stopped p.now worker.now ≡ true) × (e ≡ end_by p.now worker.now)) }
+/// Whether an end of a guided run is none of a worker that is stopped.
+fn strays(end: GuidedEnd) -> bool
+    ensures { result ≡ is_strayed end }
 {
-    match worker.end(p) {
-        GuidedEnd::Strayed => None,
-        end => Some(end),
+    match end {
+        GuidedEnd::Strayed => true,
+        GuidedEnd::Exit(_) | GuidedEnd::Trap(_, _) | GuidedEnd::Budget(_) => false,
     }
+}
+
+/// Whether a worker can take no step.
+fn is_stopped(p: &Program, worker: &Worker) -> bool
+    requires { IsOf p.now worker.now.fiber }
+    ensures { result ≡ is_stopped p.now worker.now }
+{
+    !strays(worker.end(p))
 }
 
 /// The next turn of the run, and whose it is, where a turn is left and its owner isn't stopped.
@@ -52,8 +58,8 @@ pub(crate) fn awaited(p: &Program, workers: &[Worker]) -> Option<(usize, u64)>
     ensures some { IfSome result (λ n. IsAwaited p.now workers.now n.0 n.1) }
 {
     let (t, number) = next_turn(workers)?;
-    match end_of(p, &workers[t]) {
-        None => Some((t, number)),
-        Some(_) => None,
+    if is_stopped(p, &workers[t]) {
+        return None;
     }
+    Some((t, number))
 }
