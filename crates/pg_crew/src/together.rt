@@ -56,20 +56,18 @@ fn in_threads<R: Threads + Sync>(
     ensures workers { AreWorkers (run_in shared.now) (table_in shared.now) workers.new }
     ensures gone { HaveGone (run_in shared.now) workers.old workers.new }
 {
-    let count = workers.len();
-    if count > 0 {
-        thread::for_each_mut(
-            rt,
-            workers,
-            count,
-            &|i: usize, worker: &mut Worker|
-                requires { (shared.now.gated ≡ shared.now.schedule.now.gated) × IsAt (run_in shared.now) (table_in shared.now) 0 worker.old }
-                ensures { IsAt (run_in shared.entry.now) (table_in shared.entry.now) 0 worker.new × HasGone (run_in shared.entry.now) worker.old worker.new }
-            {
-                go_on(hooks, i, shared, worker);
-            },
-        );
-    }
+    let threads = workers.len().max(1);
+    thread::for_each_mut(
+        rt,
+        workers,
+        threads,
+        &|i: usize, worker: &mut Worker|
+            requires { (shared.now.gated ≡ shared.now.schedule.now.gated) × IsAt (run_in shared.now) (table_in shared.now) 0 worker.old }
+            ensures { IsAt (run_in shared.entry.now) (table_in shared.entry.now) 0 worker.new × HasGone (run_in shared.entry.now) worker.old worker.new }
+        {
+            go_on(hooks, i, shared, worker);
+        },
+    );
 }
 
 /// A round. Gives the count behind it.

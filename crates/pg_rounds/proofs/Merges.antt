@@ -1,12 +1,12 @@
 -- The text of the turns, one after another, with the numbers of each thread that are left.
-use Rattle.std.proofs.Common.{◌≡◌, ◌≢◌, ℕ, zero, suc, ◌+◌, ◌<◌, ◌≤◌, List, [], ◌∷◌, ◌++◌, length, Bool, true, false, Option, Some, None, refl, sym, ◌∙◌, ap, arith}
-use Rattle.std.specs.Prelude.{◌==◌, drop, slice_get, slice_index, if◌then◌else◌}
+use Rattle.std.proofs.Common.{◌≡◌, ◌≢◌, ℕ, zero, suc, ◌+◌, ◌<◌, ◌≤◌, List, [], ◌∷◌, ◌++◌, length, Bool, true, false, Option, Some, None, refl, sym, ◌∙◌, ap, subst, arith}
+use Rattle.std.specs.Prelude.{◌==◌, drop, replicate, slice_get, slice_index, slice_index_or, if◌then◌else◌}
 use Rattle.std.proofs.lemmas.Bool.{eqb-true, eq-eqb}
 use Rattle.pg_ir.specs.Program.{NumberedProgram}
 use Rattle.pg_run_trace.specs.declared.turn.Turn.{Turn}
 use Rattle.pg_law_course.specs.Prints.{is_print, output_along, text_of, without_first}
 use Rattle.pg_worker.specs.declared.worker.Worker.{Worker}
-use Rattle.pg_rounds.specs.Prints.{numbers_left, numbers_of}
+use Rattle.pg_rounds.specs.Prints.{added, left_behind, numbers_left, numbers_of}
 use Rattle.pg_rounds.proofs.PrintOrder.{same_output}
 
 -- ---- lists
@@ -43,6 +43,16 @@ drop_one (x ∷ xs) zero = refl
 drop_one (x ∷ xs) (suc n) = drop_one xs n
 
 -- ---- the next number of a thread
+
+pub numbers_there : (ws : List Worker) (t : ℕ) (d : Worker) → t < length ws → numbers_of ws t ≡ (slice_index_or ws t d).prints.items
+numbers_there [] t d lt = absurd (omega (arith, lt))
+numbers_there (w ∷ ws) zero d lt = refl
+numbers_there (w ∷ ws) (suc t) d lt = numbers_there ws t d (omega (arith, lt))
+
+pub numbers_past : (ws : List Worker) (t : ℕ) → length ws ≤ t → numbers_of ws t ≡ []
+numbers_past [] t l = refl
+numbers_past (w ∷ ws) zero l = absurd (omega (arith, l))
+numbers_past (w ∷ ws) (suc t) l = numbers_past ws t (omega (arith, l))
 
 module _ (ws : List Worker) (read : List ℕ) (t : ℕ) where
   pub number_some : (m : ℕ) → slice_get (numbers_of ws t) (slice_index read t) ≡ Some m → slice_index (numbers_left ws read t) 0 ≡ m
@@ -106,3 +116,29 @@ module _ (p : NumberedProgram) (turns : List Turn) (numbers : ℕ → List ℕ) 
         ∙ ap (λ (b : Bool). out ++ (if b then text_of (slice_get p.instrs u.instr.0) u.kind (slice_index (left u.thread.0) 0) ++ output_along p rest (without_first u.thread.0 left)
         else output_along p rest left)) (sym q)
         ∙ here
+
+    pub merged_step : (more : List ℕ) → more ≡ out ++ added p u left → (after : ℕ → List ℕ) → ((t : ℕ) → after t ≡ left_behind u left t) → IsMerged p turns numbers (i + 1) more after
+    merged_step more text after e = subst (λ (n : ℕ). IsMerged p turns numbers n more after) (let q : suc i ≡ i + 1 = omega arith in q) (go (is_print u.kind) refl)
+      where
+        go : (b : Bool) → is_print u.kind ≡ b → IsMerged p turns numbers (suc i) more after
+        go true q = merged_print q (slice_index (left u.thread.0) 0) refl more
+            (text ∙ ap (λ (b : Bool). out ++ (if b then text_of (slice_get p.instrs u.instr.0) u.kind (slice_index (left u.thread.0) 0) else [])) q) after
+            (λ t. e t ∙ ap (λ (b : Bool). if b then without_first u.thread.0 left t else left t) q)
+        go false q =
+            let none : more ≡ out = text ∙ ap (λ (b : Bool). out ++ (if b then text_of (slice_get p.instrs u.instr.0) u.kind (slice_index (left u.thread.0) 0) else [])) q ∙ with_nothing out in
+            let same : output_along p rest after ≡ output_along p rest left =
+            same_output p rest after left (λ g t k. e t ∙ ap (λ (b : Bool). if b then without_first u.thread.0 left t else left t) q) in
+            ap (λ (xs : List ℕ). xs ++ output_along p rest after) none ∙ ap (λ (xs : List ℕ). out ++ xs) same ∙ merged_silent q
+
+-- at first no number was read
+zero_read : (n t : ℕ) → slice_index (replicate n 0) t ≡ 0
+zero_read zero t = refl
+zero_read (suc n) zero = refl
+zero_read (suc n) (suc t) = zero_read n t
+
+pub none_read : (ws : List Worker) (n t : ℕ) → numbers_left ws (replicate n 0) t ≡ numbers_of ws t
+none_read ws n t = ap (λ (k : ℕ). drop k (numbers_of ws t)) (zero_read n t) ∙ drop_zero (numbers_of ws t)
+  where
+    drop_zero : (xs : List ℕ) → drop 0 xs ≡ xs
+    drop_zero [] = refl
+    drop_zero (x ∷ xs) = refl

@@ -15,14 +15,14 @@ use Rattle.pg_worker.specs.declared.worker.Worker.{Worker}
 use Rattle.pg_worker.specs.Standing.{HasPaused, IsAt, is_stopped, next_turn_of}
 use Rattle.pg_crew.specs.Workers.{AreWorkers, HasGone, HaveGone, counted, done_by, turns_between, turns_of_first}
 use Rattle.pg_crew.proofs.WorkerLists.{counted_more, default_is, done_of}
-use Rattle.pg_rounds.specs.Turns.{AreFirst, HaveDone, HavePaused, IsAwaited, IsHeld, IsNext, IsOver, IsPast, WereTold}
+use Rattle.pg_rounds.specs.Turns.{HaveDone, HavePaused, IsAwaited, IsHeld, IsNext, IsOver, IsPast, WereTold}
 use Rattle.pg_rounds.proofs.TurnSums.{turns_more, turns_same}
 use Rattle.pg_rounds.proofs.WorkerTurns.{earlier, later, next_owned}
 
 -- ---- workers that were told of turns
 
-pub told_next : (p : Rattle.pg_ir.specs.Program.NumberedProgram) (a b : List Worker) (t g : ℕ) → IsNext a t g → WereTold a b → IsNext b t g
-told_next p a b t g n h = record {
+pub told_next : (a b : List Worker) (t g : ℕ) → IsNext a t g → WereTold a b → IsNext b t g
+told_next a b t g n h = record {
   within = (let w = n.within in let c = h.count in omega (arith, w, c));
   own = λ d. ap next_turn_of (h.same t d n.within) ∙ n.own d;
   least = λ u k d lt e. (let c = h.count in let l : u < length a = omega (arith, lt, c) in n.least u k d l (sym (ap next_turn_of (h.same u d l)) ∙ e));
@@ -210,7 +210,7 @@ module _ (r : Run) (table : TableId) (before mid now : List Worker) (are_mid : A
 
   pub round_gets_on : (t g : ℕ) → IsAwaited r.program before t g → ((d : Worker) → g ≤ seen_of (slice_index_or mid t d).seat.me.0) → IsOver r.program now ⊎ IsPast (suc g) now
   round_gets_on t g awaited due =
-      let next = told_next r.program before mid t g awaited.next told in
+      let next = told_next before mid t g awaited.next told in
       let d = get_length mid t next.within in
       gets_on r table mid now are_mid are_now gone t g d.0 next (due d.0)
 

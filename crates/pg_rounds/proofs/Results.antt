@@ -1,5 +1,5 @@
 -- What workers printed, the end and the number of turns are those of the guided run.
-use Rattle.std.proofs.Common.{◌≡◌, ℕ, zero, suc, ◌+◌, ◌*◌, ◌<◌, ◌≤◌, ◌⊎◌, inl, inr, List, [], ◌∷◌, length, map, Bool, true, false, Option, Some, None, refl, sym, ◌∙◌, ap, subst, arith}
+use Rattle.std.proofs.Common.{◌≡◌, ℕ, zero, suc, ◌+◌, ◌*◌, ◌<◌, ◌≤◌, ◌⊎◌, inl, inr, List, [], ◌∷◌, length, Bool, true, false, Option, Some, None, refl, sym, ◌∙◌, ap, subst, arith}
 use Rattle.std.specs.Prelude.{slice_get, slice_index_or, take}
 use Rattle.std.proofs.lemmas.Bool.{cases_lt}
 use Rattle.std.proofs.lemmas.Option.{slice_get-get_or, slice_get_within}
@@ -9,21 +9,21 @@ use Rattle.pg_num.specs.declared.limits.TheConstants.{GUIDED_STEP_LIMIT, THREAD_
 use Rattle.pg_num.specs.declared.width.Width.TheVariants.{W32}
 use Rattle.pg_run.specs.declared.guided_end.GuidedEnd.TheVariants as ends
 use Rattle.pg_run_trace.specs.declared.turn.Turn.{Turn}
-use Rattle.pg_law_runs.specs.Deeds.{Did, owners_of}
+use Rattle.pg_law_runs.specs.Deeds.{owners_of}
 use Rattle.pg_law_order.proofs.FullRunOutput.{full_goes_on}
 use Rattle.pg_law_order.proofs.GoodRunsServe.{same_end}
 use Rattle.pg_law_order.specs.Served.{guided_along}
 use Rattle.pg_law_course.specs.Course.{course}
 use Rattle.pg_law_course.specs.Plan.{turn_count}
 use Rattle.pg_law_course.specs.Prints.{numbers_printed, output_along, word_behind}
-use Rattle.pg_law_course.proofs.CoursePlaces.{get_length}
+use Rattle.pg_law_course.proofs.CoursePlaces.{get_length, take_all}
 use Rattle.pg_law_course.proofs.GuidedOutput.{same_turns}
 use Rattle.pg_law_course.proofs.MainWord.{main_word}
 use Rattle.pg_law_course.proofs.OutputByTurns.{output_by_turns}
 use Rattle.pg_law_course.proofs.RestingThreads.{exits}
 use Rattle.pg_seats.specs.declared.run.Run.{Run}
 use Rattle.pg_worker.specs.declared.worker.Worker.{Worker}
-use Rattle.pg_worker.specs.Standing.{end_by, is_stopped, next_turn_of}
+use Rattle.pg_worker.specs.Standing.{end_by, is_stopped}
 use Rattle.pg_worker.proofs.WorkerRests.{its_prints, its_value}
 use Rattle.pg_crew.specs.Workers.{AreWorkers, HaveEnded}
 use Rattle.pg_rounds.specs.Prints.{main_value, numbers_of, printed_by, value_by}
@@ -106,7 +106,7 @@ module _ (r : Run) (table : TableId) (ws : List Worker) (d : Worker) (are : AreW
       ∙ same_end r.program r.input r.schedule
 
   take_all_turns : AreDone ws → r.schedule.turns ≡ take last r.schedule.turns
-  take_all_turns done = sym (Rattle.pg_law_course.proofs.CoursePlaces.take_all r.schedule.turns) ∙ ap (λ (n : ℕ). take n r.schedule.turns) (done_turns done)
+  take_all_turns done = sym (take_all r.schedule.turns) ∙ ap (λ (n : ℕ). take n r.schedule.turns) (done_turns done)
 
   pub done_output : AreDone ws → output_along r.program r.schedule.turns (numbers_of ws) ≡ (guided_along r.program r.input r.schedule).state.printed
   done_output done = ap (λ (us : List Turn). output_along r.program us (numbers_of ws)) (take_all_turns done) ∙ output_is

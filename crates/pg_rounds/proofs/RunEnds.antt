@@ -1,13 +1,15 @@
 -- The end of a run of workers is that of the guided run.
 use Rattle.std.proofs.Common.{◌≡◌, ℕ, ◌+◌, ◌*◌, ◌<◌, ◌≤◌, ◌⊎◌, inl, inr, List, [], ◌∷◌, length, Bool, true, false, Option, Some, None, refl, sym, ◌∙◌, ap, subst, arith}
-use Rattle.std.specs.Prelude.{slice_get, slice_index_or, take}
-use Rattle.std.proofs.lemmas.Bool.{cases_lt}
+use Rattle.std.specs.Prelude.{slice_get, slice_index_or}
+use Rattle.std.proofs.lemmas.Option.{slice_get-get_or}
+use Rattle.std.proofs.lemmas.Nat.{mul-le}
 use Rattle.atomic_table.specs.Seated.{TableId}
 use Rattle.pg_num.specs.declared.limits.TheConstants.{GUIDED_STEP_LIMIT, THREAD_LIMIT}
 use Rattle.pg_law_threads.specs.Effects.{deeds}
 use Rattle.pg_law_runs.specs.Deeds.{owners_of}
-use Rattle.pg_law_course.specs.Course.{course}
+use Rattle.pg_law_course.specs.Course.{course, turns_in}
 use Rattle.pg_law_course.specs.Plan.{turn_count}
+use Rattle.pg_law_course.proofs.CoursePlaces.{get_length}
 use Rattle.pg_law_course.proofs.TurnNumbers.{below}
 use Rattle.pg_law_order.specs.Good.{run_along}
 use Rattle.pg_seats.specs.declared.run.Run.{Run}
@@ -16,9 +18,9 @@ use Rattle.pg_worker.specs.declared.worker.Paused.TheVariants as pauses
 use Rattle.pg_worker.specs.declared.worker.Worker.{Worker}
 use Rattle.pg_worker.specs.Standing.{HasPaused, IsAt, end_by, is_stopped, next_turn_of}
 use Rattle.pg_worker.proofs.WorkerRests.{done_rests, its_end, stopped_rests, waiting_rests}
-use Rattle.pg_crew.specs.Workers.{AreWorkers, HaveEnded, done_by}
-use Rattle.pg_rounds.specs.Turns.{AreDone, HavePaused, IsHeld, IsNext, IsOver, IsPast}
-use Rattle.pg_rounds.proofs.RunTurns.{chosen_below, count_few, owner_few}
+use Rattle.pg_crew.specs.Workers.{AreWorkers, done_by}
+use Rattle.pg_rounds.specs.Turns.{AreDone, HavePaused, IsHeld, IsOver}
+use Rattle.pg_rounds.proofs.RunTurns.{chosen_below, count_few}
 use Rattle.pg_rounds.proofs.TurnSums.{all_below, sum_few, sum_first, sum_same}
 use Rattle.pg_rounds.proofs.WorkerTurns.{all_done, done_all, next_few, next_late, owner_there}
 
@@ -31,13 +33,13 @@ module _ (r : Run) (table : TableId) (w : Worker) (at : IsAt r table 0 w) where
   paused_rests a pauses.Done h late = done_rests r table w at h
   paused_rests a pauses.Stopped h late = stopped_rests r table w at h.1
   paused_rests a pauses.Waiting h late =
-      let g = Rattle.pg_law_course.proofs.CoursePlaces.get_length w.turns.items w.done h.turn in
+      let g = get_length w.turns.items w.done h.turn in
       waiting_rests r table w at g.0 g.1 (late g.0 g.1) h.stands
 
   pub done_within : w.done ≤ GUIDED_STEP_LIMIT
   done_within =
-      let few = chosen_below deeds.is_event at.taken (course r.program r.input r.schedule w.thread.0) in
-      let done = at.turns_done in
+      let few : turns_in r.program r.input r.schedule w.thread.0 at.taken ≤ at.taken = chosen_below deeds.is_event at.taken (course r.program r.input r.schedule w.thread.0) in
+      let done : w.done ≡ turns_in r.program r.input r.schedule w.thread.0 at.taken = at.turns_done in
       let steps = at.steps in
       omega (arith, few, done, steps)
 
@@ -89,7 +91,7 @@ module _ (r : Run) (table : TableId) (ws : List Worker) (d : Worker) (are : AreW
   -- ---- how many turns were done in all
 
   done_is : (t : ℕ) → t < length ws → done_by (slice_get ws t) ≡ (worker t).done
-  done_is t lt = ap done_by (Rattle.std.proofs.lemmas.Option.slice_get-get_or ws t d lt)
+  done_is t lt = ap done_by (slice_get-get_or ws t d lt)
 
   pub done_sum : IsOver r.program ws → sum_first (length ws) (λ t. done_by (slice_get ws t)) ≡ last
   done_sum over =
@@ -104,5 +106,5 @@ module _ (r : Run) (table : TableId) (ws : List Worker) (d : Worker) (are : AreW
       let sum = done_sum over in
       let few = sum_few (length ws) GUIDED_STEP_LIMIT (λ t. done_by (slice_get ws t))
       (λ t lt. (let q = done_is t lt in let k = done_within r table (worker t) (are.at t d lt) in omega (arith, q, k))) in
-      let count = are.few in
-      omega (arith, sum, few, count)
+      let most = mul-le (length ws) GUIDED_STEP_LIMIT THREAD_LIMIT GUIDED_STEP_LIMIT are.few (omega arith) in
+      omega (arith, sum, few, most)

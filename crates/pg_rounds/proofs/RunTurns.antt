@@ -1,6 +1,6 @@
 -- The turns of a good run, and their owners.
 use Rattle.std.proofs.Common.{◌≡◌, ℕ, ℤ, zero, suc, ◌+◌, ◌<◌, ◌≤◌, ◌⊎◌, inl, inr, List, [], ◌∷◌, length, Bool, true, false, Some, refl, sym, ◌∙◌, ap, subst, arith}
-use Rattle.std.specs.Prelude.{◌==◌, ◌||◌, nat_le, slice_get, take, cond, if◌then◌else◌}
+use Rattle.std.specs.Prelude.{◌==◌, ◌||◌, slice_get, take, cond, if◌then◌else◌}
 use Rattle.std.specs.List.{filter}
 use Rattle.std.proofs.lemmas.Bool.{cases_lt, leb-true}
 use Rattle.std.proofs.lemmas.Option.{slice_get_within}
@@ -12,14 +12,14 @@ use Rattle.pg_law_threads.specs.Intervals.{AreTurns, done_after, turns_done}
 use Rattle.pg_run_thread.specs.declared.action.Action.TheVariants as actions
 use Rattle.pg_run_thread.specs.LocalState.{fresh}
 use Rattle.pg_run_thread.specs.Step.{next}
+use Rattle.pg_run_thread.specs.Told.{id_of}
 use Rattle.pg_run_trace.specs.declared.schedule.Schedule.{Schedule}
 use Rattle.pg_law_runs.specs.Cuts.{CanRun}
-use Rattle.pg_law_runs.specs.Deeds.{Did, owners_of}
+use Rattle.pg_law_runs.specs.Deeds.{Did, is_event_at, owners_of}
 use Rattle.pg_law_runs.proofs.StepRules.{next_fresh}
 use Rattle.pg_law_order.specs.Good.{IsGoodRun}
-use Rattle.pg_law_course.specs.Course.{course, next_turn, turns_in, turns_of}
+use Rattle.pg_law_course.specs.Course.{course, state_at, turns_from, turns_in, turns_of}
 use Rattle.pg_law_course.specs.Plan.{guided_deeds, turn_count}
-use Rattle.pg_law_course.specs.Prints.{word_behind}
 use Rattle.pg_law_course.specs.Rests.{has_spent, is_trap}
 use Rattle.pg_law_course.specs.Threads.{start_function}
 use Rattle.pg_law_course.proofs.CoursePlaces.{get_length, take_all}
@@ -40,22 +40,23 @@ fewer_below t (suc g) (suc m) (o ∷ T) h = go (t == o) (fewer_below t g m T (om
 -- no more turns are done than there are
 few_turns : (T : List ℕ) (g : ℕ) (ds : List Did) → g ≤ length T → AreTurns deeds T g ds → turns_done deeds g ds ≤ length T
 few_turns T g [] l h = l
-few_turns T g (d ∷ ds) l h = go (deeds.is_event d) refl
+few_turns T g (d ∷ ds) l h = go (deeds.is_event d) refl (few_turns T (suc g) ds) (few_turns T g ds)
   where
-    go : (b : Bool) → deeds.is_event d ≡ b → turns_done deeds (done_after (deeds.is_event d) g) ds ≤ length T
-    go true e =
-        let lt = slice_get_within T g d.thread (h.0 e) in
+    go : (b : Bool) → deeds.is_event d ≡ b → (suc g ≤ length T → AreTurns deeds T (suc g) ds → turns_done deeds (suc g) ds ≤ length T)
+        → (g ≤ length T → AreTurns deeds T g ds → turns_done deeds g ds ≤ length T) → turns_done deeds (done_after (deeds.is_event d) g) ds ≤ length T
+    go true e more rest =
+        let lt : g < length T = slice_get_within T g d.thread (h.0 e) in
         subst (λ (b : Bool). turns_done deeds (done_after b g) ds ≤ length T) (sym e)
-        (few_turns T (suc g) ds (omega (arith, lt)) (subst (λ (b : Bool). AreTurns deeds T (done_after b g) ds) e h.1))
-    go false e = subst (λ (b : Bool). turns_done deeds (done_after b g) ds ≤ length T) (sym e) (few_turns T g ds l (subst (λ (b : Bool). AreTurns deeds T (done_after b g) ds) e h.1))
+        (more (omega (arith, lt)) (subst (λ (b : Bool). AreTurns deeds T (done_after b g) ds) e h.1))
+    go false e more rest = subst (λ (b : Bool). turns_done deeds (done_after b g) ds ≤ length T) (sym e) (rest l (subst (λ (b : Bool). AreTurns deeds T (done_after b g) ds) e h.1))
 
 pub chosen_few : {A : Type 0} (f : A → Bool) (k : ℕ) (xs : List A) → length (filter f (take k xs)) ≤ length (filter f xs)
 chosen_few f k [] = none k
   where
     none : (k : ℕ) → length (filter f (take k [])) ≤ 0
-    none zero = omega arith
-    none (suc k) = omega arith
-chosen_few f zero (x ∷ xs) = omega arith
+    none zero = let z : 0 ≤ 0 = omega arith in z
+    none (suc k) = let z : 0 ≤ 0 = omega arith in z
+chosen_few f zero (x ∷ xs) = let z : 0 ≤ length (filter f (x ∷ xs)) = omega arith in z
 chosen_few f (suc k) (x ∷ xs) = go (f x) (chosen_few f k xs)
   where
     go : (b : Bool) → length (filter f (take k xs)) ≤ length (filter f xs) → length (cond b (x ∷ filter f (take k xs)) (filter f (take k xs))) ≤ length (cond b (x ∷ filter f xs) (filter f xs))
@@ -66,17 +67,14 @@ pub chosen_below : {A : Type 0} (f : A → Bool) (k : ℕ) (xs : List A) → len
 chosen_below f k [] = none k
   where
     none : (k : ℕ) → length (filter f (take k [])) ≤ k
-    none zero = omega arith
-    none (suc k) = omega arith
-chosen_below f zero (x ∷ xs) = omega arith
+    none zero = let z : 0 ≤ 0 = omega arith in z
+    none (suc k) = let z : 0 ≤ suc k = omega arith in z
+chosen_below f zero (x ∷ xs) = let z : 0 ≤ 0 = omega arith in z
 chosen_below f (suc k) (x ∷ xs) = go (f x) (chosen_below f k xs)
   where
     go : (b : Bool) → length (filter f (take k xs)) ≤ k → length (cond b (x ∷ filter f (take k xs)) (filter f (take k xs))) ≤ suc k
     go true h = omega (arith, h)
     go false h = omega (arith, h)
-
-no_start : is_trap (actions.Event requests.Start) ≡ false
-no_start = refl
 
 module _ (p : NumberedProgram) (input : List ℤ) (s : Schedule) (can : CanRun p input) (g : IsGoodRun p input s) where
   abbrev T : List ℕ
@@ -87,7 +85,10 @@ module _ (p : NumberedProgram) (input : List ℤ) (s : Schedule) (can : CanRun p
 
   -- the run does the turns of a thread that are among the turns that it does
   pub own_count : (t : ℕ) → length (filter deeds.is_event (course p input s t)) ≡ below t (turn_count p input s) T
-  own_count t = let c = own_turns t T 0 (guided_deeds p input s) (are_turns p input s can g) in omega (arith, c)
+  own_count t = sym (plus_zero (own_turns t T 0 (guided_deeds p input s) (are_turns p input s can g)))
+    where
+      plus_zero : {m k : ℕ} → m ≡ 0 + k → m ≡ k
+      plus_zero e = omega (arith, e)
 
   pub end_count : (t : ℕ) → turns_in p input s t (length (course p input s t)) ≡ below t (turn_count p input s) T
   end_count t = ap (λ (ds : List Did). length (filter deeds.is_event ds)) (take_all (course p input s t)) ∙ own_count t
@@ -122,13 +123,14 @@ module _ (p : NumberedProgram) (input : List ℤ) (s : Schedule) (can : CanRun p
           let in_none : turns_in p input s t (length (course p input s t)) ≡ 0 = ap (λ (n : ℕ). turns_in p input s t n) none ∙ nothing (course p input s t) in
           let first : below t h T ≡ turns_in p input s t (length (course p input s t)) = omega (arith, few, counted, in_none) in
           let rest = rests_at p input s can g t (fresh p t (start_function p s.turns t)) h
-          (ap (λ (n : ℕ). Rattle.pg_law_course.specs.Course.state_at p input s t n) none)
+          (ap (λ (n : ℕ). state_at p input s t n) none)
           (ap (slice_get (turns_of t s.turns)) (sym first) ∙ number_at t h e) in
           let behind = rest.behind in
           let held = rest.held (omega (arith, behind, l)) in
           let spent : has_spent (length (course p input s t)) ≡ true = ap (λ a. is_trap a || has_spent (length (course p input s t))) (sym (begins t)) ∙ held in
-          let many = leb-true GUIDED_STEP_LIMIT (length (course p input s t)) spent in
-          omega (arith, many, none)
+          let many : GUIDED_STEP_LIMIT ≤ length (course p input s t) = leb-true GUIDED_STEP_LIMIT (length (course p input s t)) spent in
+          let some : 0 < GUIDED_STEP_LIMIT = omega arith in
+          omega (arith, many, none, some)
         where
           nothing : (xs : List Did) → length (filter deeds.is_event (take 0 xs)) ≡ 0
           nothing [] = refl
@@ -146,12 +148,12 @@ module _ (p : NumberedProgram) (input : List ℤ) (s : Schedule) (can : CanRun p
       go [] q = q
       go (d ∷ ds) q =
           let step = is_step p input s can g t 0 (fresh p t (start_function p s.turns t)) d (ap (λ (xs : List Did). slice_get xs 0) q) refl in
-          let event : deeds.is_event d ≡ true = step.event ∙ ap (λ a. Rattle.pg_law_runs.specs.Deeds.is_event_at s.gated (Rattle.pg_run_thread.specs.Told.id_of (fresh p t (start_function p s.turns t))) a) (begins t) in
+          let event : deeds.is_event d ≡ true = step.event ∙ ap (λ a. is_event_at s.gated (id_of (fresh p t (start_function p s.turns t))) a) (begins t) in
           let number = step.number event in
-          let few = slice_get_within (turns_of t s.turns) _ _ number in
+          let few : turns_in p input s t 0 < length (turns_from t 0 T) = slice_get_within (turns_of t s.turns) _ _ number in
           let nothing = no_turns T none in
           absurd (omega (arith, few, nothing))
         where
-          no_turns : (T : List ℕ) → length T ≡ 0 → length (Rattle.pg_law_course.specs.Course.turns_from t 0 T) ≡ 0
+          no_turns : (T : List ℕ) → length T ≡ 0 → length (turns_from t 0 T) ≡ 0
           no_turns [] e = refl
           no_turns (o ∷ T) e = absurd (omega (arith, e))

@@ -1,33 +1,30 @@
 -- Where the workers of a run stand among its turns.
 use Rattle.std.proofs.Common.{◌≡◌, ℕ, zero, suc, ◌+◌, ◌<◌, ◌≤◌, ◌⊎◌, inl, inr, List, [], ◌∷◌, length, Bool, true, false, Option, Some, None, refl, sym, ◌∙◌, ap, subst, arith}
-use Rattle.std.specs.Prelude.{slice_get, slice_index_or, take}
+use Rattle.std.specs.Prelude.{slice_get, slice_index_or}
 use Rattle.std.specs.List.{filter}
 use Rattle.std.proofs.lemmas.Bool.{cases_lt}
 use Rattle.std.proofs.lemmas.Option.{slice_get_within}
 use Rattle.atomic_table.specs.Seated.{TableId}
-use Rattle.pg_num.specs.declared.limits.TheConstants.{THREAD_LIMIT}
 use Rattle.pg_law_threads.specs.Effects.{deeds}
-use Rattle.pg_law_runs.specs.Deeds.{Did, owners_of}
-use Rattle.pg_law_course.specs.Course.{course, turns_in, turns_of}
+use Rattle.pg_law_runs.specs.Deeds.{owners_of}
+use Rattle.pg_law_course.specs.Course.{course, turns_from, turns_in, turns_of}
 use Rattle.pg_law_course.specs.Plan.{turn_count}
 use Rattle.pg_law_course.proofs.CoursePlaces.{get_length}
-use Rattle.pg_law_course.proofs.RestingThreads.{rests_at}
-use Rattle.pg_law_course.proofs.TurnNumbers.{NextTurn, ascend, below, next_at, own_turn}
+use Rattle.pg_law_course.proofs.TurnNumbers.{ascend, below, next_at, own_turn}
 use Rattle.pg_seats.specs.declared.run.Run.{Run}
-use Rattle.pg_seats.specs.declared.run.View.TheVariants as views
 use Rattle.pg_seats.specs.Views.{seen_of}
 use Rattle.pg_worker.specs.declared.worker.Worker.{Worker}
 use Rattle.pg_worker.specs.Standing.{IsAt, next_turn_of}
 use Rattle.pg_crew.specs.Workers.{AreWorkers}
 use Rattle.pg_rounds.specs.Turns.{AreDone, IsNext}
-use Rattle.pg_rounds.proofs.RunTurns.{chosen_few, end_count, fewer_below, number_at, own_count, owner_few}
+use Rattle.pg_rounds.proofs.RunTurns.{chosen_few, end_count, number_at, own_count, owner_few}
 
 -- the numbers of its turns that are left ascend
-pub later : (t : ℕ) (T : List ℕ) (i j g h : ℕ) → slice_get (Rattle.pg_law_course.specs.Course.turns_from t 0 T) i ≡ Some g → slice_get (Rattle.pg_law_course.specs.Course.turns_from t 0 T) j ≡ Some h → i ≤ j → g ≤ h
+pub later : (t : ℕ) (T : List ℕ) (i j g h : ℕ) → slice_get (turns_from t 0 T) i ≡ Some g → slice_get (turns_from t 0 T) j ≡ Some h → i ≤ j → g ≤ h
 later t T i j g h e f l = go (cases_lt i j)
   where
     one : i ≡ j → g ≡ h
-    one q = let k : Path (Option ℕ) (Some g) (Some h) = sym e ∙ ap (slice_get (Rattle.pg_law_course.specs.Course.turns_from t 0 T)) q ∙ f in cc
+    one q = let k : Path (Option ℕ) (Some g) (Some h) = sym e ∙ ap (slice_get (turns_from t 0 T)) q ∙ f in cc
 
     go : (i < j) ⊎ (j ≤ i) → g ≤ h
     go (inl lt) = let k = ascend t 0 T i j g h e f lt in omega (arith, k)
@@ -50,9 +47,10 @@ module _ (r : Run) (table : TableId) (w : Worker) (at : IsAt r table 0 w) where
   -- it has done no more turns than the run has of its thread
   pub done_few : w.done ≤ below w.thread.0 count T
   done_few =
-      let few = chosen_few deeds.is_event at.taken (course r.program r.input r.schedule w.thread.0) in
-      let all = own_count r.program r.input r.schedule at.enforced.can at.enforced.good w.thread.0 in
-      let done = at.turns_done in
+      let few : turns_in r.program r.input r.schedule w.thread.0 at.taken ≤ length (filter deeds.is_event (course r.program r.input r.schedule w.thread.0)) =
+      chosen_few deeds.is_event at.taken (course r.program r.input r.schedule w.thread.0) in
+      let all : length (filter deeds.is_event (course r.program r.input r.schedule w.thread.0)) ≡ below w.thread.0 count T = own_count r.program r.input r.schedule at.enforced.can at.enforced.good w.thread.0 in
+      let done : w.done ≡ turns_in r.program r.input r.schedule w.thread.0 at.taken = at.turns_done in
       omega (arith, few, all, done)
 
   pub done_all : at.taken ≡ length (course r.program r.input r.schedule w.thread.0) → w.done ≡ below w.thread.0 count T
@@ -83,8 +81,10 @@ module _ (r : Run) (table : TableId) (w : Worker) (at : IsAt r table 0 w) where
   -- what its seat knows
   pub knows : (h : ℕ) → slice_get T h ≡ Some w.thread.0 → below w.thread.0 h T < w.done → h < seen_of w.seat.me.0
   knows h e l =
-      subst (λ m. h < seen_of m.0) (sym at.view)
-      (at.behind (below w.thread.0 h T) h l (own_turns_of (below w.thread.0 h T) ∙ number_at r.program r.input r.schedule at.enforced.can at.enforced.good w.thread.0 h e))
+      let seen : seen_of w.seat.me.0 ≡ at.standing.seen = ap (λ m. seen_of m.0) at.view in
+      let before : h < at.standing.seen =
+      at.behind (below w.thread.0 h T) h l (own_turns_of (below w.thread.0 h T) ∙ number_at r.program r.input r.schedule at.enforced.can at.enforced.good w.thread.0 h e) in
+      omega (arith, seen, before)
 
 module _ (r : Run) (table : TableId) (ws : List Worker) (d : Worker) (are : AreWorkers r table ws) where
   abbrev owners : List ℕ

@@ -1,11 +1,11 @@
 //! The numbers that workers printed, as the text of the run, in the order of its turns.
 
-ghost use Rattle.std.specs.Prelude.{◌≡◌, ◌≤◌, ◌*◌, ◌+◌, ◌++◌, [], IfOk, length, slice_get, slice_index, vec_capacity, ℕ};
+ghost use Rattle.std.specs.Prelude.{◌≡◌, ◌<◌, ◌≤◌, ◌*◌, ◌+◌, ◌++◌, [], IfOk, IfSome, length, slice_get, slice_index, vec_capacity, ℕ};
 ghost use Rattle.pg_num.specs.declared.limits.TheConstants.{THREAD_LIMIT};
 ghost use Rattle.pg_ir.specs.declared.request.Request.TheVariants as requests;
 ghost use Rattle.pg_run.specs.Texts.{printed_by};
 ghost use Rattle.pg_law_course.specs.Prints.{ends_line, is_print, output_along, text_of, without_first};
-ghost use Rattle.pg_rounds.specs.Prints.{numbers_left, numbers_of};
+ghost use Rattle.pg_rounds.specs.Prints.{added, left_behind, numbers_left, numbers_of};
 ghost use Rattle.pg_rounds.specs.declared.merge.TheConstants.{TEXT_LIMIT};
 
 use itoa::Buffer;
@@ -65,6 +65,7 @@ fn append(output: &mut Vec<u8>, bytes: &[u8])
 fn append_number(output: &mut Vec<u8>, number: u64, ends_line: bool)
     requires { length output.old.items + TEXT_LIMIT ≤ vec_capacity output.old }
     ensures items { output.new.items ≡ output.old.items ++ printed_by (requests.Out number ends_line) }
+    ensures short { length output.new.items ≤ length output.old.items + TEXT_LIMIT }
     ensures room { vec_capacity output.old ≤ vec_capacity output.new }
 {
     let mut buffer = Buffer::new();
@@ -81,6 +82,7 @@ fn append_number(output: &mut Vec<u8>, number: u64, ends_line: bool)
 fn append_text(output: &mut Vec<u8>, p: &Program, turn: &Turn, number: u64)
     requires { length output.old.items + TEXT_LIMIT ≤ vec_capacity output.old }
     ensures items { output.new.items ≡ output.old.items ++ text_of (slice_get p.now.instrs turn.now.instr.0) turn.now.kind number }
+    ensures short { length output.new.items ≤ length output.old.items + TEXT_LIMIT }
     ensures room { vec_capacity output.old ≤ vec_capacity output.new }
 {
     match turn.kind {
@@ -98,7 +100,21 @@ struct Reader<'a> {
 }
 
 impl<'a> Reader<'a> {
-    /// The next number of a thread, 0 where none is left.
+    /// The next number of a thread, if one is left.
+    fn peek(&self, thread: ThreadNo) -> Option<u64>
+        requires few { length self.now.workers.now ≤ THREAD_LIMIT }
+        requires reads { length self.now.read ≡ THREAD_LIMIT }
+        ensures number { result ≡ slice_get (numbers_of self.now.workers.now thread.0) (slice_index self.now.read thread.0) }
+        ensures within { IfSome result (λ _. thread.0 < length self.now.workers.now) }
+    {
+        let t = thread.0 as usize;
+        if t >= self.workers.len() {
+            return None;
+        }
+        self.workers[t].prints().get(self.read[t]).copied()
+    }
+
+    /// Reads the next number of a thread, 0 where none is left.
     fn next(&mut self, thread: ThreadNo) -> u64
         requires few { length self.old.workers.now ≤ THREAD_LIMIT }
         requires reads { length self.old.read ≡ THREAD_LIMIT }
@@ -106,19 +122,32 @@ impl<'a> Reader<'a> {
         ensures rest { (t : ℕ) → numbers_left self.new.workers.now self.new.read t ≡ without_first thread.0 (numbers_left self.old.workers.now self.old.read) t }
         ensures same { (self.new.workers ≡ self.old.workers) × (length self.new.read ≡ length self.old.read) }
     {
-        let t = thread.0 as usize;
-        if t >= self.workers.len() {
-            return 0;
-        }
-        let read = self.read[t];
-        match self.workers[t].prints().get(read).copied() {
+        match self.peek(thread) {
             None => 0,
             Some(number) => {
-                self.read[t] = read + 1;
+                self.read[thread.0 as usize] += 1;
                 number
             }
         }
     }
+}
+
+/// Appends what a turn prints, if it prints.
+fn append_turn(output: &mut Vec<u8>, reader: &mut Reader<'_>, p: &Program, turn: &Turn)
+    requires few { length reader.old.workers.now ≤ THREAD_LIMIT }
+    requires reads { length reader.old.read ≡ THREAD_LIMIT }
+    requires room { length output.old.items + TEXT_LIMIT ≤ vec_capacity output.old }
+    ensures text { output.new.items ≡ output.old.items ++ added p.now turn.now (numbers_left reader.old.workers.now reader.old.read) }
+    ensures left { (t : ℕ) → numbers_left reader.new.workers.now reader.new.read t ≡ left_behind turn.now (numbers_left reader.old.workers.now reader.old.read) t }
+    ensures same { (reader.new.workers ≡ reader.old.workers) × (length reader.new.read ≡ length reader.old.read) }
+    ensures short { length output.new.items ≤ length output.old.items + TEXT_LIMIT }
+    ensures room { vec_capacity output.old ≤ vec_capacity output.new }
+{
+    if !prints(turn.kind) {
+        return;
+    }
+    let number = reader.next(turn.thread);
+    append_text(output, p, turn, number);
 }
 
 /// What these turns print, where each worker printed its numbers.
@@ -134,10 +163,7 @@ pub(crate) fn merge(p: &Program, turns: &[Turn], workers: &[Worker], output: Vec
         read: [0; THREAD_LIMIT as usize],
     };
     for turn in turns {
-        if prints(turn.kind) {
-            let number = reader.next(turn.thread);
-            append_text(&mut output, p, turn, number);
-        }
+        append_turn(&mut output, &mut reader, p, turn);
     }
     output
 }

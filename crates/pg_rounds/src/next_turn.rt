@@ -17,7 +17,8 @@ pub(crate) fn next_turn(workers: &[Worker]) -> Option<(usize, u64)>
 {
     let mut found: Option<(usize, u64)> = None;
     for t in 0..workers.len() {
-        found = sooner(found, t, workers[t].next());
+        let next = workers[t].next();
+        found = sooner(found, t, next);
     }
     found
 }

@@ -31,8 +31,8 @@ fn tell(shared: &Shared<'_>, workers: &mut [Worker], from: usize, to: usize)
     ensures told { WereTold workers.old workers.new }
     ensures knows { (d : WorkerData) → seen_of (slice_index_or workers.old from d).seat.me.0 ≤ seen_of (slice_index_or workers.new to d).seat.me.0 }
 {
-    let note = workers[from].note(shared);
-    workers[to].take_note(shared, note);
+    let told = workers[from].note(shared);
+    workers[to].take_note(shared, told);
 }
 
 /// The owner of the turn before this one, which is done, tells the turn's owner that it is due.

@@ -1,0 +1,15 @@
+use Rattle.std.proofs.Common.{arith, ◌≤◌}
+use Rattle.pg_seats.specs.Views.{seen_of}
+use Rattle.pg_worker.specs.Standing.{run_in, table_in}
+use Rattle.pg_rounds.proofs.Notes.{before_knows, number_within, owner_at, told_none}
+use Rattle.pg_rounds.proofs.Results.{owners_count}
+use Rattle.pg_rounds.proofs.rounds.hand_on.Goals as goal
+
+pub returns-then-number-eq0-clause-told : goal.returns-then-number-eq0-clause-told
+returns-then-number-eq0-clause-told c = told_none c.args.workers.now
+
+pub index-turn-requires : goal.index-turn-requires
+index-turn-requires c =
+    let within = number_within (run_in c.args.shared.now) (table_in c.args.shared.now) c.args.workers.now c.requires.workers c.args.owner c.args.number c.requires.next in
+    let count = owners_count c.args.shared.now.schedule.now.turns in
+    omega (arith, within, count)
