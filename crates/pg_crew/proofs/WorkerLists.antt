@@ -33,12 +33,17 @@ module _ (xs : List Worker) (i : ℕ) (y : Worker) (lt : i < length xs) where
 
 -- ---- workers
 
+-- there is one
+pub some_worker : (r : Run) (table : TableId) (ws : List Worker) → AreWorkers r table ws → Worker
+some_worker r table ws are = (get_length ws 0 are.main).0
+
 -- they are workers again, where each is one of the same thread
 pub are_again : (r : Run) (table : TableId) (a b : List Worker) → AreWorkers r table a → length b ≡ length a
     → ((t : ℕ) (d : Worker) → t < length a → IsAt r table 0 (slice_index_or b t d))
     → ((t : ℕ) (d : Worker) → t < length a → (slice_index_or b t d).thread ≡ (slice_index_or a t d).thread) → AreWorkers r table b
 are_again r table a b are count at thread = record {
   enforced = are.enforced;
+  main = (let m = are.main in omega (arith, m, count));
   few = (let f = are.few in omega (arith, f, count));
   thread = λ t d lt. (let l : t < length a = omega (arith, lt, count) in ap (λ u. u.0) (thread t d l) ∙ are.thread t d l);
   at = λ t d lt. at t d (omega (arith, lt, count));

@@ -9,10 +9,11 @@ use Rattle.pg_worker.specs.declared.worker.Paused.{Paused}
 use Rattle.pg_worker.specs.declared.worker.Worker.{Worker}
 use Rattle.pg_worker.specs.Standing.{HasPaused, IsAt, WentOn}
 
--- they are the workers of the run over this table: worker t of the list is that of thread t, and each thread that a run may have and that
--- owns a turn of the schedule has one
+-- they are the workers of the run over this table: worker t of the list is that of thread t; main has one, and so has each thread that a
+-- run may have and that owns a turn of the schedule
 pub record AreWorkers (r : Run) (table : TableId) (ws : List Worker) : Type 0 where
   pub enforced : IsEnforced r
+  pub main : 0 < length ws
   pub few : length ws ≤ THREAD_LIMIT
   pub thread : (t : ℕ) (d : Worker) → t < length ws → (slice_index_or ws t d).thread.0 ≡ t
   pub at : (t : ℕ) (d : Worker) → t < length ws → IsAt r table 0 (slice_index_or ws t d)

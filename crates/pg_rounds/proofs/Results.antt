@@ -1,7 +1,6 @@
 -- What workers printed, the end and the number of turns are those of the guided run.
 use Rattle.std.proofs.Common.{◌≡◌, ℕ, zero, suc, ◌+◌, ◌*◌, ◌<◌, ◌≤◌, ◌⊎◌, inl, inr, List, [], ◌∷◌, length, Bool, true, false, Option, Some, None, refl, sym, ◌∙◌, ap, subst, arith}
 use Rattle.std.specs.Prelude.{slice_get, slice_index_or, take}
-use Rattle.std.proofs.lemmas.Bool.{cases_lt}
 use Rattle.std.proofs.lemmas.Option.{slice_get-get_or, slice_get_within}
 use Rattle.atomic_table.specs.Seated.{TableId}
 use Rattle.pg_num.specs.Numbers.{signed, truncated}
@@ -16,7 +15,7 @@ use Rattle.pg_law_order.specs.Served.{guided_along}
 use Rattle.pg_law_course.specs.Course.{course}
 use Rattle.pg_law_course.specs.Plan.{turn_count}
 use Rattle.pg_law_course.specs.Prints.{numbers_printed, output_along, word_behind}
-use Rattle.pg_law_course.proofs.CoursePlaces.{get_length, take_all}
+use Rattle.pg_law_course.proofs.CoursePlaces.{take_all}
 use Rattle.pg_law_course.proofs.GuidedOutput.{same_turns}
 use Rattle.pg_law_course.proofs.MainWord.{main_word}
 use Rattle.pg_law_course.proofs.OutputByTurns.{output_by_turns}
@@ -25,12 +24,12 @@ use Rattle.pg_seats.specs.declared.run.Run.{Run}
 use Rattle.pg_worker.specs.declared.worker.Worker.{Worker}
 use Rattle.pg_worker.specs.Standing.{end_by, is_stopped}
 use Rattle.pg_worker.proofs.WorkerRests.{its_prints, its_value}
-use Rattle.pg_crew.specs.Workers.{AreWorkers, HaveEnded}
+use Rattle.pg_crew.specs.Workers.{AreWorkers, HaveEnded, counted, turns_between}
+use Rattle.pg_crew.proofs.WorkerLists.{some_worker}
 use Rattle.pg_rounds.specs.Prints.{main_value, numbers_of, printed_by, value_by}
-use Rattle.pg_rounds.specs.Turns.{AreDone, HavePaused, IsHeld, IsNext, IsOver}
+use Rattle.pg_rounds.specs.Turns.{AreDone, AreFirst, HaveDone, HavePaused, IsHeld, IsNext, IsOver}
 use Rattle.pg_rounds.proofs.PrintOrder.{AreAlike, same_output}
-use Rattle.pg_rounds.proofs.RunEnds.{all_turns, held_end_is, held_last, last_few, over_rests}
-use Rattle.pg_rounds.proofs.RunTurns.{no_course}
+use Rattle.pg_rounds.proofs.RunEnds.{all_turns, held_end_is, held_last, last_few, over_rests, turns_in_all}
 use Rattle.pg_rounds.proofs.WorkerTurns.{next_owned, owner_there}
 
 -- the owners of the first turns
@@ -79,22 +78,9 @@ module _ (r : Run) (table : TableId) (ws : List Worker) (d : Worker) (are : AreW
   -- ---- where no turn is left
 
   value_is : main_value ws ≡ word_behind 0 0 (course r.program r.input r.schedule 0)
-  value_is = go (cases_lt 0 (length ws))
-    where
-      go : (0 < length ws) ⊎ (length ws ≤ 0) → main_value ws ≡ word_behind 0 0 (course r.program r.input r.schedule 0)
-      go (inl lt) = ap value_by (slice_get-get_or ws 0 d lt) ∙ its_value r table (worker 0) (are.at 0 d lt) (over_rests r table ws d are paused over 0 lt) (are.thread 0 d lt)
-      go (inr le) = none ws le ∙ ap (word_behind 0 0) (sym (no_course r.program r.input r.schedule are.enforced.can are.enforced.good 0 (no_turns (cases_lt 0 (length (owners_of r.schedule.turns))))))
-        where
-          none : (vs : List Worker) → length vs ≤ 0 → main_value vs ≡ 0
-          none [] l = refl
-          none (v ∷ vs) l = absurd (omega (arith, l))
-
-          no_turns : (0 < length (owners_of r.schedule.turns)) ⊎ (length (owners_of r.schedule.turns) ≤ 0) → length (owners_of r.schedule.turns) ≡ 0
-          no_turns (inl lt) =
-              let o = get_length (owners_of r.schedule.turns) 0 lt in
-              let there = owner_there r table ws d are 0 o.0 o.1 (omega arith) in
-              absurd (omega (arith, there, le))
-          no_turns (inr l) = omega (arith, l)
+  value_is =
+      ap value_by (slice_get-get_or ws 0 d are.main)
+      ∙ its_value r table (worker 0) (are.at 0 d are.main) (over_rests r table ws d are paused over 0 are.main) (are.thread 0 d are.main)
 
   pub done_turns : AreDone ws → length r.schedule.turns ≡ last
   done_turns done = sym (owners_count r.schedule.turns) ∙ sym (all_turns r table ws d are paused done)
@@ -153,3 +139,10 @@ module _ (r : Run) (table : TableId) (ws : List Worker) (d : Worker) (are : AreW
 pub have_ended : (r : Run) (table : TableId) (ws : List Worker) → AreWorkers r table ws → HavePaused r ws → IsOver r.program ws → HaveEnded r table ws
 have_ended r table ws are paused over t d lt =
     (are.at t d lt, over_rests r table ws d are paused over t lt ∙ ap (λ (u : ℕ). length (course r.program r.input r.schedule u)) (are.thread t d lt))
+
+-- the count of the crew rose by the turns of the guided run
+pub counted_all : (r : Run) (table : TableId) (first ws : List Worker) → AreWorkers r table ws → HavePaused r ws → AreFirst first → HaveDone first ws → IsOver r.program ws
+    → (count more turns : ℕ) → more ≡ counted count (turns_between first ws) → turns ≡ (guided_along r.program r.input r.schedule).turns → more ≡ counted count turns
+counted_all r table first ws are paused none done over count more turns e q =
+    let d = some_worker r table ws are in
+    e ∙ ap (counted count) (turns_in_all r table ws d are paused first none done over ∙ turns_are r table ws d are paused over ∙ sym q)

@@ -18,10 +18,10 @@ use Rattle.pg_worker.specs.declared.worker.Paused.TheVariants as pauses
 use Rattle.pg_worker.specs.declared.worker.Worker.{Worker}
 use Rattle.pg_worker.specs.Standing.{HasPaused, IsAt, end_by, is_stopped, next_turn_of}
 use Rattle.pg_worker.proofs.WorkerRests.{done_rests, its_end, stopped_rests, waiting_rests}
-use Rattle.pg_crew.specs.Workers.{AreWorkers, done_by}
-use Rattle.pg_rounds.specs.Turns.{AreDone, HavePaused, IsHeld, IsOver}
+use Rattle.pg_crew.specs.Workers.{AreWorkers, done_by, turns_between}
+use Rattle.pg_rounds.specs.Turns.{AreDone, AreFirst, HaveDone, HavePaused, IsHeld, IsOver}
 use Rattle.pg_rounds.proofs.RunTurns.{chosen_below, count_few}
-use Rattle.pg_rounds.proofs.TurnSums.{all_below, sum_few, sum_first, sum_same}
+use Rattle.pg_rounds.proofs.TurnSums.{all_below, sum_few, sum_first, sum_same, turns_first}
 use Rattle.pg_rounds.proofs.WorkerTurns.{all_done, done_all, next_few, next_late, owner_there}
 
 module _ (r : Run) (table : TableId) (w : Worker) (at : IsAt r table 0 w) where
@@ -108,3 +108,12 @@ module _ (r : Run) (table : TableId) (ws : List Worker) (d : Worker) (are : AreW
       (λ t lt. (let q = done_is t lt in let k = done_within r table (worker t) (are.at t d lt) in omega (arith, q, k))) in
       let most = mul-le (length ws) GUIDED_STEP_LIMIT THREAD_LIMIT GUIDED_STEP_LIMIT are.few (omega arith) in
       omega (arith, sum, few, most)
+
+  -- all of the turns that the run does were done by these workers
+  pub turns_in_all : (first : List Worker) → AreFirst first → HaveDone first ws → IsOver r.program ws → turns_between first ws ≡ last
+  turns_in_all first none done over =
+      turns_first (length first) first ws (λ t lt. undone t (get_length first t lt).0 lt)
+      ∙ ap (λ (n : ℕ). sum_first n (λ t. done_by (slice_get ws t))) (sym done.count) ∙ done_sum over
+    where
+      undone : (t : ℕ) (w : Worker) → t < length first → done_by (slice_get first t) ≡ 0
+      undone t w lt = ap done_by (slice_get-get_or first t w lt) ∙ none t w lt

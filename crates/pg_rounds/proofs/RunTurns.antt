@@ -12,13 +12,12 @@ use Rattle.pg_law_threads.specs.Intervals.{AreTurns, done_after, turns_done}
 use Rattle.pg_run_thread.specs.declared.action.Action.TheVariants as actions
 use Rattle.pg_run_thread.specs.LocalState.{fresh}
 use Rattle.pg_run_thread.specs.Step.{next}
-use Rattle.pg_run_thread.specs.Told.{id_of}
 use Rattle.pg_run_trace.specs.declared.schedule.Schedule.{Schedule}
 use Rattle.pg_law_runs.specs.Cuts.{CanRun}
-use Rattle.pg_law_runs.specs.Deeds.{Did, is_event_at, owners_of}
+use Rattle.pg_law_runs.specs.Deeds.{Did, owners_of}
 use Rattle.pg_law_runs.proofs.StepRules.{next_fresh}
 use Rattle.pg_law_order.specs.Good.{IsGoodRun}
-use Rattle.pg_law_course.specs.Course.{course, state_at, turns_from, turns_in, turns_of}
+use Rattle.pg_law_course.specs.Course.{course, state_at, turns_in, turns_of}
 use Rattle.pg_law_course.specs.Plan.{guided_deeds, turn_count}
 use Rattle.pg_law_course.specs.Rests.{has_spent, is_trap}
 use Rattle.pg_law_course.specs.Threads.{start_function}
@@ -139,21 +138,3 @@ module _ (p : NumberedProgram) (input : List ℤ) (s : Schedule) (can : CanRun p
       go : (t < THREAD_LIMIT) ⊎ (THREAD_LIMIT ≤ t) → t < THREAD_LIMIT
       go (inl lt) = lt
       go (inr le) = absurd (never le)
-
-  -- a thread without turns takes no step
-  pub no_course : (t : ℕ) → length T ≡ 0 → course p input s t ≡ []
-  no_course t none = go (course p input s t) refl
-    where
-      go : (xs : List Did) → course p input s t ≡ xs → course p input s t ≡ []
-      go [] q = q
-      go (d ∷ ds) q =
-          let step = is_step p input s can g t 0 (fresh p t (start_function p s.turns t)) d (ap (λ (xs : List Did). slice_get xs 0) q) refl in
-          let event : deeds.is_event d ≡ true = step.event ∙ ap (λ a. is_event_at s.gated (id_of (fresh p t (start_function p s.turns t))) a) (begins t) in
-          let number = step.number event in
-          let few : turns_in p input s t 0 < length (turns_from t 0 T) = slice_get_within (turns_of t s.turns) _ _ number in
-          let nothing = no_turns T none in
-          absurd (omega (arith, few, nothing))
-        where
-          no_turns : (T : List ℕ) → length T ≡ 0 → length (turns_from t 0 T) ≡ 0
-          no_turns [] e = refl
-          no_turns (o ∷ T) e = absurd (omega (arith, e))

@@ -7,7 +7,7 @@ ghost use Rattle.pg_law_order.specs.Served.{guided_along};
 ghost use Rattle.pg_num.specs.Numbers.{signed, truncated};
 ghost use Rattle.pg_num.specs.declared.width.Width.TheVariants.{W32};
 ghost use Rattle.pg_rounds.specs.Prints.{main_value};
-ghost use Rattle.pg_rounds.specs.Turns.{AreFirst, HaveDone, HavePaused, IsAwaited, IsNext, IsOver, IsPast, WereTold};
+ghost use Rattle.pg_rounds.specs.Turns.{AreDone, AreFirst, HaveDone, HavePaused, IsAwaited, IsNext, IsOver, IsPast, WereTold};
 ghost use Rattle.pg_rounds.specs.declared.merge.TheConstants.{TEXT_LIMIT};
 ghost use Rattle.pg_seats.specs.Views.{seen_of};
 ghost use Rattle.pg_worker.specs.declared.worker.Worker.{Worker as WorkerData};
@@ -96,13 +96,59 @@ fn go<R: Threads + Sync, C: Crew>(rt: &R, shared: &Shared<'_>, workers: &mut [Wo
 
 /// The value with which the run exits where all turns are done: that of the main thread.
 fn exit_value(workers: &[Worker]) -> i32
+    requires { 0 < length workers.now }
     ensures { result ≡ signed W32 (truncated W32 (main_value workers.now)) }
 {
-    let word = match workers.get(0) {
-        Some(main) => main.value(),
-        None => 0,
-    };
+    let word = workers[0].value();
     to_signed(Width::W32, trunc(Width::W32, word)) as i32
+}
+
+/// What the run printed and its end, where no turn is left.
+fn all_done(shared: &Shared<'_>, workers: &[Worker], output: Vec<u8>) -> Ended
+    requires workers { AreWorkers (run_in shared.now) (table_in shared.now) workers.now }
+    requires paused { HavePaused (run_in shared.now) workers.now }
+    requires over { IsOver shared.now.program.now workers.now }
+    requires done { AreDone workers.now }
+    requires empty { output.items ≡ [] }
+    requires room { TEXT_LIMIT * length shared.now.schedule.now.turns ≤ vec_capacity output }
+    ensures output { result.output.items ≡ (guided_along shared.now.program.now shared.now.input.now shared.now.schedule.now).state.printed }
+    ensures end { result.end ≡ (guided_along shared.now.program.now shared.now.input.now shared.now.schedule.now).end }
+    ensures turns { result.turns ≡ (guided_along shared.now.program.now shared.now.input.now shared.now.schedule.now).turns }
+{
+    let turns = shared.schedule.turns.as_slice();
+    let output = merge(shared.program, turns, workers, output);
+    Ended {
+        output,
+        end: GuidedEnd::Exit(exit_value(workers)),
+        turns: turns.len() as u32,
+    }
+}
+
+/// What the run printed and its end, where the owner of its next turn is stopped.
+fn held(
+    shared: &Shared<'_>,
+    workers: &[Worker],
+    output: Vec<u8>,
+    owner: usize,
+    number: u64,
+) -> Ended
+    requires workers { AreWorkers (run_in shared.now) (table_in shared.now) workers.now }
+    requires paused { HavePaused (run_in shared.now) workers.now }
+    requires over { IsOver shared.now.program.now workers.now }
+    requires next { IsNext workers.now owner number }
+    requires empty { output.items ≡ [] }
+    requires room { TEXT_LIMIT * length shared.now.schedule.now.turns ≤ vec_capacity output }
+    ensures output { result.output.items ≡ (guided_along shared.now.program.now shared.now.input.now shared.now.schedule.now).state.printed }
+    ensures end { result.end ≡ (guided_along shared.now.program.now shared.now.input.now shared.now.schedule.now).end }
+    ensures turns { result.turns ≡ (guided_along shared.now.program.now shared.now.input.now shared.now.schedule.now).turns }
+{
+    let turns = &shared.schedule.turns.as_slice()[..number as usize];
+    let output = merge(shared.program, turns, workers, output);
+    Ended {
+        output,
+        end: workers[owner].end(shared.program),
+        turns: number as u32,
+    }
 }
 
 /// What the run printed, its end, and how many turns it did.
@@ -115,20 +161,10 @@ fn ended(shared: &Shared<'_>, workers: &[Worker], output: Vec<u8>) -> Ended
     ensures output { result.output.items ≡ (guided_along shared.now.program.now shared.now.input.now shared.now.schedule.now).state.printed }
     ensures end { result.end ≡ (guided_along shared.now.program.now shared.now.input.now shared.now.schedule.now).end }
     ensures turns { result.turns ≡ (guided_along shared.now.program.now shared.now.input.now shared.now.schedule.now).turns }
-    ensures ended { HaveEnded (run_in shared.now) (table_in shared.now) workers.now }
 {
-    let turns = shared.schedule.turns.as_slice();
     match next_turn(workers) {
-        None => Ended {
-            output: merge(shared.program, turns, workers, output),
-            end: GuidedEnd::Exit(exit_value(workers)),
-            turns: turns.len() as u32,
-        },
-        Some((owner, number)) => Ended {
-            output: merge(shared.program, &turns[..number as usize], workers, output),
-            end: workers[owner].end(shared.program),
-            turns: number as u32,
-        },
+        None => all_done(shared, workers, output),
+        Some((owner, number)) => held(shared, workers, output, owner, number),
     }
 }
 

@@ -1,0 +1,13 @@
+use Rattle.std.proofs.Common.{◌∙◌, sym, ap}
+use Rattle.pg_worker.specs.Standing.{run_in, table_in}
+use Rattle.pg_crew.specs.Workers.{counted}
+use Rattle.pg_rounds.proofs.RunEnds.{counted_all}
+use Rattle.pg_rounds.proofs.Results.{have_ended}
+use Rattle.pg_rounds.proofs.rounds.rounds.Goals as goal
+
+pub returns-clause-ended : goal.returns-clause-ended
+returns-clause-ended g c = have_ended (run_in c.args.shared.now) (table_in c.args.shared.now) c.go.new.workers c.go.ensures.workers c.go.ensures.paused c.go.ensures.over
+
+pub returns-clause-counts : goal.returns-clause-counts
+returns-clause-counts g c = counted_all (run_in c.args.shared.now) (table_in c.args.shared.now) c.args.workers.now c.go.new.workers c.go.ensures.workers c.go.ensures.paused c.requires.first c.go.ensures.done c.go.ensures.over _ _ _
+    c.go.ensures.counts c.ended.ensures.turns
