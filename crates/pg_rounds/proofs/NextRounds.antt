@@ -35,7 +35,7 @@ module _ (r : Run) (table : TableId) (a b : List Worker) (are : AreWorkers r tab
   gone_paused t d lt =
       let c = gone.count in
       let h = gone.each t d (omega (arith, lt, c)) in
-      (slice_index_or a t d, (h.why, h.paused))
+      (slice_index_or a t d, h.why, h.paused)
 
   pub gone_done : HaveDone a b
   gone_done = record { count = gone.count; more = λ t d lt. (gone.each t d lt).went.done }
@@ -124,25 +124,22 @@ module _ (r : Run) (table : TableId) (a b : List Worker) (are : AreWorkers r tab
         go (inl lt) = lt
         go (inr le) = absurd (ne (let m = h.went.done in omega (arith, m, le)))
 
+    held : before.done ≡ after.done → is_stopped r.program after ≡ true → IsHeld r.program b t g
+    held same stopped = record {
+      next = record {
+        within = there;
+        own = λ e. ap next_turn_of (default_is b t e d there) ∙ stays same;
+        least = λ u k e lt q. (let first = next_later u k e lt q in
+            let c = gone.count in
+            let f = next.least u first.0 e (omega (arith, c, lt)) first.1.0 in
+            let m = first.1.1.0 in
+            omega (arith, f, m));
+      };
+      stopped = λ e. ap (is_stopped r.program) (default_is b t e d there) ∙ stopped;
+    }
+
     over : before.done ≡ after.done → is_stopped r.program after ≡ true → IsOver r.program b
-    over same stopped = inr (
-      t,
-      (
-        g,
-        record {
-          next = record {
-            within = there;
-            own = λ e. ap next_turn_of (default_is b t e d there) ∙ stays same;
-            least = λ u k e lt q. (let first = next_later u k e lt q in
-                let c = gone.count in
-                let f = next.least u first.0 e (omega (arith, c, lt)) first.1.0 in
-                let m = first.1.1.0 in
-                omega (arith, f, m));
-          };
-          stopped = λ e. ap (is_stopped r.program) (default_is b t e d there) ∙ stopped;
-        },
-      ),
-    )
+    over same stopped = inr (t, g, held same stopped)
 
     gets_on_by : (why : Paused) → HasPaused r why before after → IsOver r.program b ⊎ IsPast (suc g) b
     gets_on_by pauses.Done q = inr (passed (rose (λ same. (let f = slice_get_within after.turns.items after.done g (stays same) in omega (arith, f, q)))))
@@ -223,12 +220,12 @@ not_over r table ws are t g a over = by (get_length ws t a.next.within) over
     by : (d : Worker) × (slice_get ws t ≡ Some d) → IsOver r.program ws → ⊥
     by d (inl done) = let k : Path (Option ℕ) None (Some g) = sym (done t d.0 a.next.within) ∙ a.next.own d.0 in cc
     by d (inr h) =
-        let held = h.1.1 in
-        let first = a.next.least h.0 h.1.0 d.0 held.next.within (held.next.own d.0) in
+        let held = h.2 in
+        let first = a.next.least h.0 h.1 d.0 held.next.within (held.next.own d.0) in
         let second = held.next.least t g d.0 a.next.within (a.next.own d.0) in
-        let same : h.1.0 ≡ g = omega (arith, first, second) in
+        let same : h.1 ≡ g = omega (arith, first, second) in
         let mine = next_owned r table (slice_index_or ws t d.0) (are.at t d.0 a.next.within) g (a.next.own d.0) ∙ ap (λ (i : ℕ). Some i) (are.thread t d.0 a.next.within) in
-        let its = next_owned r table (slice_index_or ws h.0 d.0) (are.at h.0 d.0 held.next.within) h.1.0 (held.next.own d.0) ∙ ap (λ (i : ℕ). Some i) (are.thread h.0 d.0 held.next.within) in
+        let its = next_owned r table (slice_index_or ws h.0 d.0) (are.at h.0 d.0 held.next.within) h.1 (held.next.own d.0) ∙ ap (λ (i : ℕ). Some i) (are.thread h.0 d.0 held.next.within) in
         let both : Path (Option ℕ) (Some h.0) (Some t) = sym its ∙ ap (slice_get (owners_of r.schedule.turns)) same ∙ mine in
         let own : h.0 ≡ t = cc in
         let k : true ≡ false = sym (held.stopped d.0) ∙ ap (λ (i : ℕ). is_stopped r.program (slice_index_or ws i d.0)) own ∙ a.goes d.0 in

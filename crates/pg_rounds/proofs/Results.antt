@@ -106,12 +106,12 @@ module _ (r : Run) (table : TableId) (ws : List Worker) (d : Worker) (are : AreW
       by : IsOver r.program ws → IsHeld r.program ws t g
       by (inl done) = let k : Path (Option ℕ) None (Some g) = sym (done t d n.within) ∙ n.own d in absurd cc
       by (inr h) =
-          let held = h.1.1 in
-          let first = n.least h.0 h.1.0 d held.next.within (held.next.own d) in
+          let held = h.2 in
+          let first = n.least h.0 h.1 d held.next.within (held.next.own d) in
           let second = held.next.least t g d n.within (n.own d) in
-          let same : h.1.0 ≡ g = omega (arith, first, second) in
+          let same : h.1 ≡ g = omega (arith, first, second) in
           let mine = next_owned r table (worker t) (are.at t d n.within) g (n.own d) ∙ ap (λ (i : ℕ). Some i) (are.thread t d n.within) in
-          let its = next_owned r table (worker h.0) (are.at h.0 d held.next.within) h.1.0 (held.next.own d) ∙ ap (λ (i : ℕ). Some i) (are.thread h.0 d held.next.within) in
+          let its = next_owned r table (worker h.0) (are.at h.0 d held.next.within) h.1 (held.next.own d) ∙ ap (λ (i : ℕ). Some i) (are.thread h.0 d held.next.within) in
           let both : Path (Option ℕ) (Some h.0) (Some t) = sym its ∙ ap (slice_get (owners_of r.schedule.turns)) same ∙ mine in
           let own : h.0 ≡ t = cc in
           record { next = n; stopped = λ e. subst (λ (i : ℕ). is_stopped r.program (slice_index_or ws i e) ≡ true) own (held.stopped e) }

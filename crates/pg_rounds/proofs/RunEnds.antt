@@ -67,14 +67,14 @@ module _ (r : Run) (table : TableId) (ws : List Worker) (d : Worker) (are : AreW
   pub over_late : IsOver r.program ws → AreLate
   over_late (inl done) t g lt e = let k : Path (Option ℕ) None (Some g) = sym (done t d lt) ∙ e in absurd cc
   over_late (inr h) t g lt e =
-      let q = held_last h.0 h.1.0 h.1.1 in
-      let least = h.1.1.next.least t g d lt e in
+      let q = held_last h.0 h.1 h.2 in
+      let least = h.2.next.least t g d lt e in
       omega (arith, q, least)
 
   pub over_rests : IsOver r.program ws → (t : ℕ) → (lt : t < length ws) → HasRested r table (worker t) (are.at t d lt)
   over_rests over t lt =
       let h = paused t d lt in
-      paused_rests r table (worker t) (are.at t d lt) h.0 h.1.0 h.1.1 (λ g e. over_late over t g lt e)
+      paused_rests r table (worker t) (are.at t d lt) h.0 h.1 h.2 (λ g e. over_late over t g lt e)
 
   -- where no turn is left, the run does as many as the schedule has
   pub all_turns : AreDone ws → last ≡ length owners

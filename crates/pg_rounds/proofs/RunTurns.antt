@@ -93,7 +93,7 @@ module _ (p : NumberedProgram) (input : List ℤ) (s : Schedule) (can : CanRun p
   end_count t = ap (λ (ds : List Did). length (filter deeds.is_event ds)) (take_all (course p input s t)) ∙ own_count t
 
   pub number_at : (t h : ℕ) → slice_get T h ≡ Some t → slice_get (turns_of t s.turns) (below t h T) ≡ Some h
-  number_at t h e = numbered t 0 h T e
+  number_at t h e = numbered t 0 h T e ∙ ap (λ (n : ℕ). Some n) (let q : 0 + h ≡ h = omega arith in q)
 
   -- a thread without steps is before its start
   begins : (t : ℕ) → next p (fresh p t (start_function p s.turns t)) ≡ actions.Event requests.Start

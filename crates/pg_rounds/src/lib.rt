@@ -5,8 +5,8 @@
 mod ended;
 mod merge;
 mod next_turn;
-mod rounds;
+mod run;
 
 pub use ended::Ended;
 pub use merge::reserve;
-pub use rounds::rounds;
+pub use run::rounds;

@@ -3,7 +3,7 @@ use Rattle.pg_seats.specs.Views.{seen_of}
 use Rattle.pg_worker.specs.Standing.{run_in, table_in}
 use Rattle.pg_rounds.proofs.Notes.{before_knows, number_within, owner_at, told_none}
 use Rattle.pg_rounds.proofs.Results.{owners_count}
-use Rattle.pg_rounds.proofs.rounds.hand_on.Goals as goal
+use Rattle.pg_rounds.proofs.run.hand_on.Goals as goal
 
 pub returns-then-number-eq0-clause-told : goal.returns-then-number-eq0-clause-told
 returns-then-number-eq0-clause-told c = told_none c.args.workers.now

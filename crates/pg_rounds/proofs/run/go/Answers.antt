@@ -2,7 +2,7 @@ use Rattle.std.proofs.Common.{inr, sym, arith, ◌∙◌}
 use Rattle.pg_worker.specs.Standing.{run_in, table_in}
 use Rattle.pg_rounds.proofs.NextRounds.{counted_both, done_both, gone_done, gone_paused, past_all, past_first, past_more}
 use Rattle.pg_rounds.proofs.Results.{owners_count}
-use Rattle.pg_rounds.proofs.rounds.go.Goals as goal
+use Rattle.pg_rounds.proofs.run.go.Goals as goal
 
 pub loop-init : goal.loop-init
 loop-init g c = record {

@@ -3,7 +3,7 @@ use Rattle.pg_worker.specs.Standing.{run_in, table_in}
 use Rattle.pg_crew.specs.Workers.{counted}
 use Rattle.pg_rounds.proofs.RunEnds.{counted_all}
 use Rattle.pg_rounds.proofs.Results.{have_ended}
-use Rattle.pg_rounds.proofs.rounds.rounds.Goals as goal
+use Rattle.pg_rounds.proofs.run.rounds.Goals as goal
 
 pub returns-clause-ended : goal.returns-clause-ended
 returns-clause-ended g c = have_ended (run_in c.args.shared.now) (table_in c.args.shared.now) c.go.new.workers c.go.ensures.workers c.go.ensures.paused c.go.ensures.over

@@ -3,7 +3,7 @@ use Rattle.pg_run.specs.declared.guided_end.GuidedEnd.TheVariants as ends
 use Rattle.pg_worker.specs.Standing.{run_in, table_in}
 use Rattle.pg_crew.proofs.WorkerLists.{some_worker}
 use Rattle.pg_rounds.proofs.Results.{done_end, done_output, done_turns, turns_are}
-use Rattle.pg_rounds.proofs.rounds.all_done.Goals as goal
+use Rattle.pg_rounds.proofs.run.all_done.Goals as goal
 
 pub exit_value-requires : goal.exit_value-requires
 exit_value-requires c = c.requires.workers.main

@@ -2,7 +2,7 @@ use Rattle.std.proofs.Common.{◌∙◌, [], sym, ap}
 use Rattle.pg_seats.specs.declared.run.View.TheVariants.{Note}
 use Rattle.pg_worker.specs.Standing.{noted_in, run_in, table_in}
 use Rattle.pg_rounds.proofs.Notes.{noting_are, to_within, told_are, told_is, told_knows}
-use Rattle.pg_rounds.proofs.rounds.tell.Goals as goal
+use Rattle.pg_rounds.proofs.run.tell.Goals as goal
 
 pub note-told-requires-clause-at : goal.note-told-requires-clause-at
 note-told-requires-clause-at c = c.requires.workers.at c.args.from _ c.requires.within.0

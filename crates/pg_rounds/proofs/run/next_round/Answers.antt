@@ -1,6 +1,6 @@
 use Rattle.pg_worker.specs.Standing.{run_in, table_in}
 use Rattle.pg_rounds.proofs.NextRounds.{round_counts, round_done, round_gets_on, round_paused}
-use Rattle.pg_rounds.proofs.rounds.next_round.Goals as goal
+use Rattle.pg_rounds.proofs.run.next_round.Goals as goal
 
 pub hand_on-requires-clause-next : goal.hand_on-requires-clause-next
 hand_on-requires-clause-next g c = c.requires.next.next

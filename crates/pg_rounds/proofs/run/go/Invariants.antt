@@ -2,7 +2,7 @@ use Rattle.std.proofs.Common.{◌≡◌, ◌⊎◌}
 use Rattle.pg_worker.specs.Standing.{run_in, table_in}
 use Rattle.pg_crew.specs.Workers.{AreWorkers, counted, turns_between}
 use Rattle.pg_rounds.specs.Turns.{HaveDone, HavePaused, IsOver, IsPast}
-use Rattle.pg_rounds.proofs.rounds.go.Given as goal
+use Rattle.pg_rounds.proofs.run.go.Given as goal
 
 abbrev pub invariant-loop : goal.invariant-loop
 invariant-loop g l = record {
