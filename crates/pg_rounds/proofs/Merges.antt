@@ -81,6 +81,10 @@ module _ (ws : List Worker) (read : List ℕ) (t : ℕ) where
           rw q (ap (λ (n : ℕ). drop n (numbers_of ws u)) next ∙ drop_one (numbers_of ws u) (slice_index read u))
       go false q = rw q (ap (λ (n : ℕ). drop n (numbers_of ws u)) (other u (λ e. (let k : true ≡ false = sym (eq-eqb u t e) ∙ q in absurd cc))))
 
+pub rest_add : (ws : List Worker) (read : List ℕ) (t : ℕ) (more : List ℕ) → slice_index more t ≡ slice_index read t + 1 → ((u : ℕ) → u ≢ t → slice_index more u ≡ slice_index read u)
+    → (u : ℕ) → numbers_left ws more u ≡ without_first t (numbers_left ws read) u
+rest_add ws read t more own other = rest_some ws read t more (let q : slice_index read t + 1 ≡ suc (slice_index read t) = omega arith in own ∙ q) other
+
 -- ---- the turns, one after another
 
 -- behind i of the turns this text is out, and these numbers are left

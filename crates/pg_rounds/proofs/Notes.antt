@@ -3,7 +3,7 @@ use Rattle.std.proofs.Common.{◌≡◌, ◌≢◌, ℕ, zero, suc, ◌+◌, ◌
 use Rattle.std.specs.Prelude.{max, slice_get, slice_index_or, slice_set}
 use Rattle.std.proofs.lemmas.Bool.{cases_lt}
 use Rattle.std.proofs.lemmas.List.{get_or-set_same, length-set}
-use Rattle.std.proofs.lemmas.Option.{slice_get_within}
+use Rattle.std.proofs.lemmas.Option.{slice_get_read, slice_get_within}
 use Rattle.atomic_table.specs.Seated.{TableId}
 use Rattle.pg_law_runs.specs.Deeds.{owners_of}
 use Rattle.pg_run_trace.specs.declared.turn.Turn.{Turn}
@@ -98,3 +98,6 @@ pub owner_at : (us : List Turn) (g : ℕ) (u : Turn) → slice_get us g ≡ Some
 owner_at [] g u e = absurd cc
 owner_at (v ∷ us) zero u e = let k : v ≡ u = cc in ap (λ (w : Turn). Some w.thread.0) k
 owner_at (v ∷ us) (suc g) u e = owner_at us g u e
+
+pub turn_owner : (us : List Turn) (g : ℕ) (u : Turn) → g < length us → u ≡ slice_index_or us g u → slice_get (owners_of us) g ≡ Some u.thread.0
+turn_owner us g u lt e = owner_at us g u (slice_get_read us (length us) g u refl lt e)

@@ -3,4 +3,4 @@ use Rattle.pg_crew.proofs.WorkerLists.{Going}
 use Rattle.pg_crew.proofs.one_by_one.in_turn.Given as goal
 
 abbrev pub invariant-loop-i : goal.invariant-loop-i
-invariant-loop-i l = Going (run_in l.shared.now) (table_in l.shared.now) l.fn.workers l.workers l.i
+invariant-loop-i g l = Going (run_in l.shared) (table_in l.shared) l.fn.workers l.workers l.i

@@ -1,4 +1,4 @@
-use Rattle.std.proofs.Common.{◌∙◌, arith}
+use Rattle.std.proofs.Common.{◌∙◌}
 use Rattle.pg_worker.specs.Standing.{run_in}
 use Rattle.pg_crew.proofs.WorkerLists.{round_since, round_turns}
 use Rattle.pg_crew.proofs.together.counted_round.Goals as goal

@@ -11,5 +11,5 @@ invariant-loop-turn l = record {
   same : l.reader.workers.now ≡ l.workers;
   reads : length l.reader.read ≡ THREAD_LIMIT;
   room : length l.output.items + TEXT_LIMIT * (length l.turns - l.turn-index) ≤ vec_capacity l.output;
-  merged : IsMerged l.p.now l.turns (numbers_of l.workers) l.turn-index l.output.items (numbers_left l.reader.workers.now l.reader.read);
+  merged : IsMerged l.p l.turns (numbers_of l.workers) l.turn-index l.output.items (numbers_left l.reader.workers.now l.reader.read);
 }

@@ -8,8 +8,8 @@ pub loop-t-init : goal.loop-t-init
 loop-t-init c = λ t d lt. absurd (omega (arith, lt))
 
 pub loop-t-preserved : goal.loop-t-preserved
-loop-t-preserved c = first_more c.args.workers.now c.loop-t.t c.loop-t.found c.next-next.result c.sooner.result c.loop-t.invariant
-    (λ d. ap next_turn_of (default_is c.args.workers.now c.loop-t.t d _ (omega arith)) ∙ sym c.next-next.ensures) c.sooner.ensures
+loop-t-preserved c = first_more c.args.workers.now c.loop-t.t c.loop-t.found c.next-next.result c.sooner-found.result c.loop-t.invariant
+    (λ d. ap next_turn_of (default_is c.args.workers.now c.loop-t.t d _ (omega arith)) ∙ sym c.next-next.ensures) c.sooner-found.ensures
 
 pub returns-clause-none : goal.returns-clause-none
 returns-clause-none c = none_is c.args.workers.now c.loop-t.found (first_of_all c.args.workers.now c.loop-t.t c.loop-t.found c.loop-t.invariant (omega (arith, c.loop-t-test.false, c.loop-t.auto.t-end)))

@@ -6,9 +6,9 @@ use Rattle.pg_rounds.proofs.run.go.Given as goal
 
 abbrev pub invariant-loop : goal.invariant-loop
 invariant-loop g l = record {
-  workers : AreWorkers (run_in l.shared.now) (table_in l.shared.now) l.workers;
-  paused : HavePaused (run_in l.shared.now) l.workers;
+  workers : AreWorkers (run_in l.shared) (table_in l.shared) l.workers;
+  paused : HavePaused (run_in l.shared) l.workers;
   done : HaveDone l.fn.workers l.workers;
   counts : g.C.Crew.turns l.crew ≡ counted (g.C.Crew.turns l.fn.crew) (turns_between l.fn.workers l.workers);
-  past : IsOver l.shared.now.program.now l.workers ⊎ IsPast l.loop-index l.workers;
+  past : IsOver l.shared.program.now l.workers ⊎ IsPast l.loop-index l.workers;
 }

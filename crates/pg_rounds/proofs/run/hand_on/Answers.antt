@@ -1,7 +1,9 @@
-use Rattle.std.proofs.Common.{arith, ◌≤◌}
+use Rattle.std.proofs.Common.{◌≡◌, ◌<◌, ◌≤◌, ◌-◌, Some, length, arith, subst}
+use Rattle.std.specs.Prelude.{slice_get, slice_index_or}
+use Rattle.pg_law_runs.specs.Deeds.{owners_of}
 use Rattle.pg_seats.specs.Views.{seen_of}
 use Rattle.pg_worker.specs.Standing.{run_in, table_in}
-use Rattle.pg_rounds.proofs.Notes.{before_knows, number_within, owner_at, told_none}
+use Rattle.pg_rounds.proofs.Notes.{before_knows, number_within, told_none, turn_owner}
 use Rattle.pg_rounds.proofs.Results.{owners_count}
 use Rattle.pg_rounds.proofs.run.hand_on.Goals as goal
 
