@@ -10,8 +10,8 @@ use Rattle.pg_rounds.proofs.run.hand_on.Goals as goal
 pub returns-then-number-eq0-clause-told : goal.returns-then-number-eq0-clause-told
 returns-then-number-eq0-clause-told c = told_none c.args.workers.now
 
-pub index-turn-requires : goal.index-turn-requires
-index-turn-requires c =
+pub bounds-as_slice-number : goal.bounds-as_slice-number
+bounds-as_slice-number c =
     let within = number_within (run_in c.args.shared.now) (table_in c.args.shared.now) c.args.workers.now c.requires.workers c.args.owner c.args.number c.requires.next in
     let count = owners_count c.args.shared.now.schedule.now.turns in
     omega (arith, within, count)

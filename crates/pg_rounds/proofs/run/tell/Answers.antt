@@ -4,9 +4,6 @@ use Rattle.pg_worker.specs.Standing.{noted_in, run_in, table_in}
 use Rattle.pg_rounds.proofs.Notes.{noting_are, to_within, told_are, told_is, told_knows}
 use Rattle.pg_rounds.proofs.run.tell.Goals as goal
 
-pub note-told-requires-clause-at : goal.note-told-requires-clause-at
-note-told-requires-clause-at c = c.requires.workers.at c.args.from _ c.requires.within.0
-
 pub take_note-requires-clause-at : goal.take_note-requires-clause-at
 take_note-requires-clause-at c = (noting_are (run_in c.args.shared.now) (table_in c.args.shared.now) c.args.workers.now c.requires.workers c.args.from c.args.to c.requires.within.0 c.requires.within.1 c.requires.apart
     c.note-told.new.self c.note-told.new.self _ c.note-told.new.self c.note-told.ensures.same c.note-told.ensures.at).at c.args.to _
