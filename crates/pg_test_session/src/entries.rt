@@ -2,4 +2,5 @@
 
 mod guided;
 mod recorded;
+mod shared_steps;
 mod turns;
