@@ -1,5 +1,5 @@
 -- How a session of a program ends, by what its runner tells.
-use Rattle.std.proofs.Common.{◌≡◌, sym, subst, ℕ}
+use Rattle.std.proofs.Common.{◌≡◌, sym, subst, ℕ, List, Option}
 use Rattle.std.specs.Prelude.{Err, Ok, OnOk, Result}
 use Rattle.pg_cache.specs.Kept.{Kept}
 use Rattle.pg_ir.specs.Program.{NumberedProgram}
@@ -12,19 +12,19 @@ use Rattle.pg_commands.specs.Commands.{CrewChange, ServesMaking, SinkChange, Sou
 use Rattle.pg_commands.specs.Sessions.{SessionEnds, nothing_told, rounds_told}
 
 -- what a session that is done tells
-abbrev Done : (ℕ → Type 0) → NumberedProgram → Way → Kept EntryParts → SourceChange → SinkChange → Result (Unit {0}) ServeFault → Type 0
-Done Makes p way first source sink ended = OnOk ended (HasBytes source.rest_before (ServesMaking Makes p way first sink.taken_before sink.taken_after))
+abbrev Done : (ℕ → Type 0) → NumberedProgram → Way → Kept EntryParts → Option (List ℕ) → Option (List ℕ) → Option (List ℕ) → Result (Unit {0}) ServeFault → Type 0
+Done Makes p way first rest old new ended = OnOk ended (HasBytes rest (ServesMaking Makes p way first old new))
 
-done_telling : (A B : ℕ → Type 0) (p : NumberedProgram) (way : Way) (first : Kept EntryParts) (source : SourceChange) (sink : SinkChange) (ended : Result (Unit {0}) ServeFault)
-    → ((n : ℕ) → A n → B n) → Done A p way first source sink ended → Done B p way first source sink ended
-done_telling A B p way first source sink (Ok done) f d = (d.0, d.1, record { all = d.2.all; makes = f (recordings_of d.2.all.serves.session.answers) d.2.makes })
-done_telling A B p way first source sink (Err fault) f d = tt
+done_telling : (A B : ℕ → Type 0) (p : NumberedProgram) (way : Way) (first : Kept EntryParts) (rest old new : Option (List ℕ)) (ended : Result (Unit {0}) ServeFault)
+    → ((n : ℕ) → A n → B n) → Done A p way first rest old new ended → Done B p way first rest old new ended
+done_telling A B p way first rest old new (Ok done) f d = (d.0, d.1, record { all = d.2.all; makes = f (recordings_of d.2.all.serves.session.answers) d.2.makes })
+done_telling A B p way first rest old new (Err fault) f d = tt
 
 -- the session tells less of its recordings
 pub ends_telling : (A B : ℕ → Type 0) (p : NumberedProgram) (way : Way) (first : Kept EntryParts) (source : SourceChange) (sink : SinkChange) (ended : Result (Unit {0}) ServeFault)
     → ((n : ℕ) → A n → B n) → SessionEnds A p way first source sink ended → SessionEnds B p way first source sink ended
 ends_telling A B p way first source sink ended f h = record {
-  done = done_telling A B p way first source sink ended f h.done;
+  done = done_telling A B p way first source.rest_before sink.taken_before sink.taken_after ended f h.done;
   input_limit = h.input_limit;
   read_fault = h.read_fault;
   write_fault = h.write_fault;
@@ -44,23 +44,22 @@ ends_of Makes s p way first source sink ended program same h =
     subst (λ (v : Way). SessionEnds Makes p v first source sink ended) same
     (subst (λ (q : NumberedProgram). SessionEnds Makes q s.way first source sink ended) program h)
 
-abbrev Counted : Subject → Kept EntryParts → SourceChange → SinkChange → Counts → Counts → Type 0
-Counted s first source sink before after =
-    HasBytes source.rest_before (ServesCounted entry_admits (runs_by s.program s.way) first (told sink.taken_before before) (told sink.taken_after after))
+abbrev Counted : Subject → Kept EntryParts → Option (List ℕ) → Option (List ℕ) → Option (List ℕ) → Counts → Counts → Type 0
+Counted s first rest old new before after = HasBytes rest (ServesCounted entry_admits (runs_by s.program s.way) first (told old before) (told new after))
 
 -- what a session that is done tells, and nothing of its recordings
-pub done_plain : (s : Subject) (first : Kept EntryParts) (source : SourceChange) (sink : SinkChange) (before after : Counts) (ended : Result (Unit {0}) ServeFault)
-    → OnOk ended (Counted s first source sink before after)
-    → Done nothing_told s.program s.way first source sink ended
-done_plain s first source sink before after (Ok done) d = (d.0, d.1, record { all = d.2.all; makes = tt })
-done_plain s first source sink before after (Err fault) d = tt
+pub done_plain : (s : Subject) (first : Kept EntryParts) (rest old new : Option (List ℕ)) (before after : Counts) (ended : Result (Unit {0}) ServeFault)
+    → OnOk ended (Counted s first rest old new before after)
+    → Done nothing_told s.program s.way first rest old new ended
+done_plain s first rest old new before after (Ok done) d = (d.0, d.1, record { all = d.2.all; makes = tt })
+done_plain s first rest old new before after (Err fault) d = tt
 
 -- and that the rounds of the crew rose by as many
-pub done_rounds : (s : Subject) (first : Kept EntryParts) (source : SourceChange) (sink : SinkChange) (before after : Counts) (crew : CrewChange) (ended : Result (Unit {0}) ServeFault)
+pub done_rounds : (s : Subject) (first : Kept EntryParts) (rest old new : Option (List ℕ)) (before after : Counts) (crew : CrewChange) (ended : Result (Unit {0}) ServeFault)
     → before.recordings ≡ crew.rounds_before → crew.rounds_after ≡ after.recordings
-    → OnOk ended (Counted s first source sink before after)
-    → Done (rounds_told crew) s.program s.way first source sink ended
-done_rounds s first source sink before after crew (Ok done) b a d = (
+    → OnOk ended (Counted s first rest old new before after)
+    → Done (rounds_told crew) s.program s.way first rest old new ended
+done_rounds s first rest old new before after crew (Ok done) b a d = (
   d.0,
   d.1,
   record {
@@ -68,4 +67,4 @@ done_rounds s first source sink before after crew (Ok done) b a d = (
     makes = subst (λ (n : ℕ). RoseBy _ n crew.rounds_after) b (subst (λ (n : ℕ). RoseBy _ before.recordings n) (sym a) d.2.counted.recordings_rose);
   },
 )
-done_rounds s first source sink before after crew (Err fault) b a d = tt
+done_rounds s first rest old new before after crew (Err fault) b a d = tt

@@ -14,7 +14,7 @@ serve-requires-clause-stands g c = λ _ _.
 pub returns : goal.returns
 returns g c =
     ends_of nothing_told c.new-runner.result.subject _ _ _ _ _ _ c.new-runner.ensures.program c.new-runner.ensures.way (record {
-      done = done_plain c.new-runner.result.subject _ _ _ _ _ _ c.serve.ensures.done;
+      done = done_plain c.new-runner.result.subject _ _ _ _ _ _ _ c.serve.ensures.done;
       input_limit = c.serve.ensures.input_limit;
       read_fault = c.serve.ensures.read_fault;
       write_fault = c.serve.ensures.write_fault_cuts;
