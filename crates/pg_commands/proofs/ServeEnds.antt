@@ -1,5 +1,5 @@
 -- How `serve` ends.
-use Rattle.std.proofs.Common.{◌≡◌, refl, sym, subst, ℕ, Bool, inl, inr, List, Option, IfSome, arith}
+use Rattle.std.proofs.Common.{◌≡◌, ◌+◌, refl, sym, subst, ℕ, Bool, inl, inr, List, Option, IfSome, arith}
 use Rattle.std.specs.Prelude.{Err, Ok, Result}
 use Rattle.std.specs.Io.KnownBytes.{Appends}
 use Rattle.pg_ir.specs.Program.{NumberedProgram}

@@ -64,7 +64,8 @@ done_rounds s first rest old new before after crew (Ok done) b a d = (
   d.1,
   record {
     all = d.2.all;
-    makes = subst (λ (n : ℕ). RoseBy _ n crew.rounds_after) b (subst (λ (n : ℕ). RoseBy _ before.recordings n) (sym a) d.2.counted.recordings_rose);
+    makes = let count = recordings_of d.2.all.serves.session.answers in
+        subst (λ (n : ℕ). RoseBy count n crew.rounds_after) b (subst (λ (n : ℕ). RoseBy count before.recordings n) (sym a) d.2.counted.recordings_rose);
   },
 )
 done_rounds s first rest old new before after crew (Err fault) b a d = tt

@@ -195,8 +195,14 @@ fn ways_of_a_session(rt: HostRuntime) -> Result<(), Fail> {
         (&["serve", "x", "--free"], Some(RecordingWay::Free)),
         (&["serve", "x", "--free", "--"], Some(RecordingWay::Free)),
         (&["serve", "--free", "--", "x"], Some(RecordingWay::Free)),
-        (&["serve", "--seed", "7", "x"], Some(RecordingWay::Seeded(7))),
-        (&["serve", "x", "--seed", "0"], Some(RecordingWay::Seeded(0))),
+        (
+            &["serve", "--seed", "7", "x"],
+            Some(RecordingWay::Seeded(7)),
+        ),
+        (
+            &["serve", "x", "--seed", "0"],
+            Some(RecordingWay::Seeded(0)),
+        ),
         (&["serve", "x", "--seed=007"], Some(RecordingWay::Seeded(7))),
         (
             &["serve", "--seed=18446744073709551615", "x"],
@@ -226,10 +232,7 @@ fn ways_of_a_session(rt: HostRuntime) -> Result<(), Fail> {
         (&["serve", "x", "--free", "--seed", "5"], None),
         (&["serve", "--seed=5", "--free", "x"], None),
         (&["serve", "--seed=5", "--quantum=5", "x"], None),
-        (
-            &["serve", "--free", "--seed=5", "--quantum=5", "x"],
-            None,
-        ),
+        (&["serve", "--free", "--seed=5", "--quantum=5", "x"], None),
     ];
     for (words, want) in rows {
         assert_eq!(rt; session_way(rt.alloc(), words)?, want);
@@ -240,10 +243,22 @@ fn ways_of_a_session(rt: HostRuntime) -> Result<(), Fail> {
 #[test]
 fn ways_of_a_show(rt: HostRuntime) -> Result<(), Fail> {
     let rows: [(&[&str], Option<(&str, RecordingWay, &[i64])>); 16] = [
-        (&["show", "--free", "x", "1"], Some(("x", RecordingWay::Free, &[1]))),
-        (&["show", "x", "--free"], Some(("x", RecordingWay::Free, &[]))),
-        (&["show", "x", "1", "--free", "2"], Some(("x", RecordingWay::Free, &[1, 2]))),
-        (&["show", "--seed", "3", "4", "5"], Some(("4", RecordingWay::Seeded(3), &[5]))),
+        (
+            &["show", "--free", "x", "1"],
+            Some(("x", RecordingWay::Free, &[1])),
+        ),
+        (
+            &["show", "x", "--free"],
+            Some(("x", RecordingWay::Free, &[])),
+        ),
+        (
+            &["show", "x", "1", "--free", "2"],
+            Some(("x", RecordingWay::Free, &[1, 2])),
+        ),
+        (
+            &["show", "--seed", "3", "4", "5"],
+            Some(("4", RecordingWay::Seeded(3), &[5])),
+        ),
         (
             &["show", "x", "--seed=3", "--", "-5"],
             Some(("x", RecordingWay::Seeded(3), &[-5])),
@@ -265,7 +280,10 @@ fn ways_of_a_show(rt: HostRuntime) -> Result<(), Fail> {
         let found = command(rt.alloc(), &words)?;
         match &found {
             Some(Command::Show(show)) => {
-                assert_eq!(rt; Some((show.file.as_str(), show.way, show.numbers.as_slice())), want)
+                assert_eq!(rt;
+                    Some((show.file.as_str(), show.way, show.numbers.as_slice())),
+                    want
+                )
             }
             Some(_) => assert!(rt; false),
             None => assert!(rt; want.is_none()),

@@ -29,14 +29,14 @@ pub returns-in-Free-clause-ends : goal.returns-in-Free-clause-ends
 returns-in-Free-clause-ends g c =
     let loaded = rw c.as_str.ensures.value at (rw c.in-Ok-Accepted.field-0-is at c.in-Ok-Accepted.ensures.loaded) in
     serve_by _ _ _ _ _ _ _ _ c.in-Free.is
-    (rw c.status_of.ensures (serve_ended _ _ _ _ _ _ c.in-Ok-Accepted.program c.in-Ok.first _ c.in-Ok.ensures (loaded.0, loaded.1, loaded.2.0)
+    (rw c.status_of-in-Free.ensures (serve_ended _ _ _ _ _ _ c.in-Ok-Accepted.program c.in-Ok.first _ c.in-Ok.ensures (loaded.0, loaded.1, loaded.2.0)
     (λ name. stayed _ _ _ (λ e. cc) (c.in-Ok-Accepted.ensures.counts name)) (inl tt)
     (ends_telling _ _ _ _ _ _ _ _ (λ n h. h) c.serve_freely.ensures)))
 
-pub returns-in-Seeded-clause-ends : goal.returns-in-Seeded-clause-ends
-returns-in-Seeded-clause-ends g c =
+pub returns-clause-ends : goal.returns-clause-ends
+returns-clause-ends g c =
     let loaded = rw c.as_str.ensures.value at (rw c.in-Ok-Accepted.field-0-is at c.in-Ok-Accepted.ensures.loaded) in
     serve_by _ _ _ _ _ _ _ _ c.in-Seeded.is
-    (rw c.status_of.ensures (serve_ended _ _ _ _ _ _ c.in-Ok-Accepted.program c.in-Ok.first _ c.in-Ok.ensures (loaded.0, loaded.1, loaded.2.0)
+    (rw c.status_of-in-Seeded.ensures (serve_ended _ _ _ _ _ _ c.in-Ok-Accepted.program c.in-Ok.first _ c.in-Ok.ensures (loaded.0, loaded.1, loaded.2.0)
     (λ name. stayed _ _ _ (λ e. cc) (c.in-Ok-Accepted.ensures.counts name)) (inr refl)
-    (ends_telling _ _ _ _ _ _ _ _ (λ n h. tt) c.serve_freely.ensures)))
+    (ends_telling _ _ _ _ _ _ _ _ (λ n h. tt) c.serve_freely-in-Seeded.ensures)))

@@ -14,7 +14,7 @@ serve-ended-requires-clause-stands g c = λ _ _.
 pub returns : goal.returns
 returns g c =
     ends_of (rounds_told _) c.new-runner.result.subject _ _ _ _ _ _ c.new-runner.ensures.program c.new-runner.ensures.way (record {
-      done = done_rounds c.new-runner.result.subject _ _ _ _ _ _ _ _ (c.new-runner.ensures.rounds ∙ ap g.G.FreeCrew.rounds c.replace.ensures.result) c.into_crew.ensures c.serve-ended.ensures.done;
+      done = done_rounds c.new-runner.result.subject _ _ _ _ _ _ _ _ (c.new-runner.ensures.rounds ∙ ap g.G.FreeCrew.rounds c.replace.ensures.value) c.into_crew.ensures c.serve-ended.ensures.done;
       input_limit = c.serve-ended.ensures.input_limit;
       read_fault = c.serve-ended.ensures.read_fault;
       write_fault = c.serve-ended.ensures.write_fault_cuts;

@@ -58,12 +58,12 @@ returns-in-Ok-Some-Serve-clause-fault_keeps_sink g c = λ fault.
       rw c.in-Ok-Some-Serve.field-0-0-is at (rw c.in-Ok-Some-Serve.field-0-is at c.in-Ok-Some-Serve.ensures.some),
     )
 
-pub unreachable-in-Ok-Some-Book-requires : goal.unreachable-in-Ok-Some-Book-requires
-unreachable-in-Ok-Some-Book-requires g c =
+pub unreachable-requires : goal.unreachable-requires
+unreachable-requires g c =
     let means = rw c.in-Ok-Some-Book.field-0-0-is at (rw c.in-Ok-Some-Book.field-0-is at c.in-Ok-Some-Book.ensures.some) in
     let none = means.offered in cc
 
-pub unreachable-in-Ok-Some-Conditions-requires : goal.unreachable-in-Ok-Some-Conditions-requires
-unreachable-in-Ok-Some-Conditions-requires g c =
+pub unreachable-requires-in-Ok-Some-Conditions : goal.unreachable-requires-in-Ok-Some-Conditions
+unreachable-requires-in-Ok-Some-Conditions g c =
     let means = rw c.in-Ok-Some-Conditions.field-0-0-is at (rw c.in-Ok-Some-Conditions.field-0-is at c.in-Ok-Some-Conditions.ensures.some) in
     let none = means.offered in cc
