@@ -25,7 +25,7 @@ fn words_of(alloc: Global, line: &str) -> Result<Vec<String>, AllocError> {
 }
 
 /// The status of the command whose words these are, with this shelf and this source, and what it writes.
-pub(crate) fn outcome<R: Threads + Wait + Sync + Print + Files + Alloc>(
+pub(crate) fn outcome<R: Threads + Wait + Sync + Print + Files + AllocGlobal>(
     rt: &R,
     line: &str,
     mut shelf: MemoryShelf,
@@ -47,7 +47,7 @@ pub(crate) fn outcome<R: Threads + Wait + Sync + Print + Files + Alloc>(
 }
 
 /// The files of these names, one behind the other.
-pub(crate) fn joined<R: Threads + Wait + Sync + Print + Files + Alloc>(
+pub(crate) fn joined<R: Threads + Wait + Sync + Print + Files + AllocGlobal>(
     rt: &R,
     names: &str,
 ) -> Result<Vec<u8>> {
@@ -59,7 +59,7 @@ pub(crate) fn joined<R: Threads + Wait + Sync + Print + Files + Alloc>(
     Ok(text)
 }
 
-pub(crate) fn print_bytes<R: Threads + Wait + Sync + Print + Files + Alloc>(
+pub(crate) fn print_bytes<R: Threads + Wait + Sync + Print + Files + AllocGlobal>(
     rt: &R,
     bytes: &[u8],
 ) -> Result<()> {

@@ -39,7 +39,7 @@ fn slow_source(alloc: Global, input: &[u8], failing: &[u64]) -> Result<MemorySou
 }
 
 /// The status of the command whose words these are, with this program text and this source, and what it writes.
-fn answer<R: Threads + Wait + Sync + Print + Files + Alloc>(
+fn answer<R: Threads + Wait + Sync + Print + Files + AllocGlobal>(
     rt: &R,
     line: &str,
     text: &[u8],
@@ -49,7 +49,7 @@ fn answer<R: Threads + Wait + Sync + Print + Files + Alloc>(
 }
 
 /// Runs a command line, and prints what comes of it, under a title. Says so where reads of one byte give something else.
-fn print_outcome<R: Threads + Wait + Sync + Print + Files + Alloc>(
+fn print_outcome<R: Threads + Wait + Sync + Print + Files + AllocGlobal>(
     rt: &R,
     title: &str,
     line: &str,
@@ -70,7 +70,7 @@ fn print_outcome<R: Threads + Wait + Sync + Print + Files + Alloc>(
 }
 
 /// Runs a row: its words, its files and its input.
-fn print_row<R: Threads + Wait + Sync + Print + Files + Alloc>(
+fn print_row<R: Threads + Wait + Sync + Print + Files + AllocGlobal>(
     rt: &R,
     row: &str,
     line: &str,
@@ -86,7 +86,7 @@ fn print_row<R: Threads + Wait + Sync + Print + Files + Alloc>(
 }
 
 /// Whether `serve` answers anything else on a front of the text than that the program ran or was refused.
-fn has_other_front<R: Threads + Wait + Sync + Print + Files + Alloc>(
+fn has_other_front<R: Threads + Wait + Sync + Print + Files + AllocGlobal>(
     rt: &R,
     text: &[u8],
 ) -> Result<bool, AllocError> {
@@ -102,7 +102,7 @@ fn has_other_front<R: Threads + Wait + Sync + Print + Files + Alloc>(
 
 /// The status of `serve` of the program text `text` over these lines, where the reads of these numbers fail, and what it
 /// writes. A read takes one byte.
-fn served<R: Threads + Wait + Sync + Print + Files + Alloc>(
+fn served<R: Threads + Wait + Sync + Print + Files + AllocGlobal>(
     rt: &R,
     text: &[u8],
     lines: &[u8],
@@ -117,7 +117,7 @@ fn served<R: Threads + Wait + Sync + Print + Files + Alloc>(
 }
 
 /// Prints a status and what was written, with `/` for a line feed.
-fn print_served<R: Threads + Wait + Sync + Print + Files + Alloc>(
+fn print_served<R: Threads + Wait + Sync + Print + Files + AllocGlobal>(
     rt: &R,
     title: &str,
     status: Status,
@@ -144,7 +144,7 @@ fn front(bytes: &[u8], len: usize) -> &[u8] {
 }
 
 /// Serves the lines where the source ends behind so many bytes, and where the read behind them fails.
-fn print_cut<R: Threads + Wait + Sync + Print + Files + Alloc>(
+fn print_cut<R: Threads + Wait + Sync + Print + Files + AllocGlobal>(
     rt: &R,
     text: &[u8],
     lines: &[u8],
@@ -157,7 +157,7 @@ fn print_cut<R: Threads + Wait + Sync + Print + Files + Alloc>(
 }
 
 /// Prints what comes of each prefix of the lines.
-fn print_cuts<R: Threads + Wait + Sync + Print + Files + Alloc>(
+fn print_cuts<R: Threads + Wait + Sync + Print + Files + AllocGlobal>(
     rt: &R,
     text: &[u8],
     lines: &[u8],
@@ -171,7 +171,7 @@ fn print_cuts<R: Threads + Wait + Sync + Print + Files + Alloc>(
 
 /// Whether a failed read behind `len` bytes leaves anything else than the replies to the first `end` bytes, or these aren't a
 /// front of the replies `whole`.
-fn cut_differs<R: Threads + Wait + Sync + Print + Files + Alloc>(
+fn cut_differs<R: Threads + Wait + Sync + Print + Files + AllocGlobal>(
     rt: &R,
     text: &[u8],
     lines: &[u8],
@@ -191,7 +191,7 @@ fn cut_differs<R: Threads + Wait + Sync + Print + Files + Alloc>(
 
 /// Whether, at some prefix of the lines, a failed read behind it leaves anything else than the replies to the lines that end in
 /// it, or these aren't a front of the replies to all lines.
-fn has_other_cut<R: Threads + Wait + Sync + Print + Files + Alloc>(
+fn has_other_cut<R: Threads + Wait + Sync + Print + Files + AllocGlobal>(
     rt: &R,
     text: &[u8],
     lines: &[u8],
@@ -226,7 +226,7 @@ fn padded(
 }
 
 /// Lines at the limit of a line, and texts that are longer than a program may be.
-fn print_limits<R: Threads + Wait + Sync + Print + Files + Alloc>(rt: &R) -> Result<()> {
+fn print_limits<R: Threads + Wait + Sync + Print + Files + AllocGlobal>(rt: &R) -> Result<()> {
     let alloc = rt.alloc();
     let sum = joined(rt, "known.ll sum.ll")?;
     let lines = padded(
@@ -257,7 +257,7 @@ fn print_limits<R: Threads + Wait + Sync + Print + Files + Alloc>(rt: &R) -> Res
 }
 
 /// Serves each prefix of some lines.
-fn print_prefixes<R: Threads + Wait + Sync + Print + Files + Alloc>(rt: &R) -> Result<()> {
+fn print_prefixes<R: Threads + Wait + Sync + Print + Files + AllocGlobal>(rt: &R) -> Result<()> {
     let text = joined(rt, "known.ll sum.ll")?;
     print_cuts(rt, text.as_slice(), b"1 2\n3 4\n5")?;
     let text = joined(rt, "known.ll counted.ll")?;
@@ -271,7 +271,7 @@ fn print_prefixes<R: Threads + Wait + Sync + Print + Files + Alloc>(rt: &R) -> R
 }
 
 /// Prints what comes of the sessions.
-pub(crate) fn print_sessions<R: Threads + Wait + Sync + Print + Files + Alloc>(
+pub(crate) fn print_sessions<R: Threads + Wait + Sync + Print + Files + AllocGlobal>(
     rt: &R,
 ) -> Result<()> {
     let rows = fs::read_to_string(rt, "sessions.txt")?;

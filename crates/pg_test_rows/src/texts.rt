@@ -19,7 +19,7 @@ use std::thread::Threads;
 const PIECE: usize = 4096;
 
 /// The status of the command whose words these are, where its source has this text and its shelf no file, and what it writes.
-fn answer<R: Threads + Wait + Sync + Print + Files + Alloc>(
+fn answer<R: Threads + Wait + Sync + Print + Files + AllocGlobal>(
     rt: &R,
     line: &str,
     text: Vec<u8>,
@@ -31,7 +31,7 @@ fn answer<R: Threads + Wait + Sync + Print + Files + Alloc>(
 }
 
 /// Runs a command line on a text, and prints what comes of it.
-fn print_outcome<R: Threads + Wait + Sync + Print + Files + Alloc>(
+fn print_outcome<R: Threads + Wait + Sync + Print + Files + AllocGlobal>(
     rt: &R,
     line: &str,
     name: &str,
@@ -44,7 +44,10 @@ fn print_outcome<R: Threads + Wait + Sync + Print + Files + Alloc>(
 }
 
 /// Runs `once` on a text in which `⏎` stands for a line feed, and prints what was written, and then the text.
-fn print_check<R: Threads + Wait + Sync + Print + Files + Alloc>(rt: &R, text: &str) -> Result<()> {
+fn print_check<R: Threads + Wait + Sync + Print + Files + AllocGlobal>(
+    rt: &R,
+    text: &str,
+) -> Result<()> {
     let lines = text.replace(rt.alloc(), "⏎", "\n")?;
     let (_, written) = answer(rt, "once", lines.as_bytes().to_vec(rt.alloc())?)?;
     match str::from_utf8(written.as_slice()) {
@@ -58,7 +61,7 @@ fn print_check<R: Threads + Wait + Sync + Print + Files + Alloc>(rt: &R, text: &
 }
 
 /// Prints what comes of each line of `checks.txt`.
-fn print_checks<R: Threads + Wait + Sync + Print + Files + Alloc>(rt: &R) -> Result<()> {
+fn print_checks<R: Threads + Wait + Sync + Print + Files + AllocGlobal>(rt: &R) -> Result<()> {
     let texts = fs::read_to_string(rt, "checks.txt")?;
     println!(rt; "checks.txt")?;
     for text in texts.lines() {
@@ -68,7 +71,7 @@ fn print_checks<R: Threads + Wait + Sync + Print + Files + Alloc>(rt: &R) -> Res
 }
 
 /// Whether `once` answers anything else on a front of the text than that the program ran or was refused.
-fn has_other_front<R: Threads + Wait + Sync + Print + Files + Alloc>(
+fn has_other_front<R: Threads + Wait + Sync + Print + Files + AllocGlobal>(
     rt: &R,
     text: &[u8],
 ) -> Result<bool, AllocError> {
@@ -82,7 +85,7 @@ fn has_other_front<R: Threads + Wait + Sync + Print + Files + Alloc>(
 }
 
 /// Prints the canonical text of a program.
-fn print_canonical<R: Threads + Wait + Sync + Print + Files + Alloc>(
+fn print_canonical<R: Threads + Wait + Sync + Print + Files + AllocGlobal>(
     rt: &R,
     text: &[u8],
 ) -> Result<()> {
@@ -100,7 +103,9 @@ fn print_canonical<R: Threads + Wait + Sync + Print + Files + Alloc>(
 }
 
 /// Prints what comes of the texts.
-pub(crate) fn print_texts<R: Threads + Wait + Sync + Print + Files + Alloc>(rt: &R) -> Result<()> {
+pub(crate) fn print_texts<R: Threads + Wait + Sync + Print + Files + AllocGlobal>(
+    rt: &R,
+) -> Result<()> {
     let rows = fs::read_to_string(rt, "rows.txt")?;
     for row in rows.lines() {
         match row.split_once(" < ") {
