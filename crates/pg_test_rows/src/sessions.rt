@@ -262,7 +262,7 @@ fn print_prefixes<R: Threads + Wait + Sync + Print + Files + AllocGlobal>(rt: &R
     print_cuts(rt, text.as_slice(), b"1 2\n3 4\n5")?;
     let text = joined(rt, "known.ll counted.ll")?;
     let other = has_other_cut(
-        rt.alloc(),
+        rt,
         text.as_slice(),
         b"1\n2\n2\n3\n4\n5\n6\n7\n8\n9\n10\n11\n12\n13\n14\n15\n16\n17\n1\n2 x\n",
     )?;
