@@ -131,6 +131,7 @@ class Texts:
                 into = self.of_source
             if not parts[0].startswith("pg_"):
                 continue
+            parts = self.home_of(parts)
             if listed is None:
                 word = alias or parts[-1]
                 if into is self.of_source:
@@ -149,6 +150,12 @@ class Texts:
                     if is_public:
                         public[bare(other.strip() or item)] = names[bare(other.strip() or item)]
         return names, modules, public
+
+    @staticmethod
+    def home_of(parts):
+        """The parts of a path, from the crate on whose item it names: a crate may hand on the ones below it by their names."""
+        at = max((at for at, it in enumerate(parts) if it.startswith("pg_")), default=0)
+        return [parts[at], *(["specs"] if at and parts[1] == "specs" else []), *parts[at + 1 :]]
 
     @staticmethod
     def of_specs(parts, name):
@@ -225,7 +232,8 @@ class Texts:
             if item:
                 yield item
         for of, path, word in re.findall(r"Rattle\.(pg_\w+)\.specs\.([\w.]+)\.([\w']+)", text):
-            item = self.item_of((of, path, word))
+            of, _, *path = self.home_of([of, "specs", *path.split(".")])
+            item = self.item_of((of, ".".join(path), word))
             if item:
                 yield item
 

@@ -57,7 +57,7 @@ end:
 }}"""
 
 
-# from the back where the target lies behind the source: only pointers of one frame can have bytes in common
+# from the back where the target lies behind the source: only pointers with the same bounds can have bytes in common
 MOVE = """define void @pg.move(ptr %to, ptr %from, i64 %count) {
 start:
   %behind = icmp ugt ptr %to, %from

@@ -17,7 +17,7 @@ FIRST = ("llvm.expect", "llvm.ssa.copy", "llvm.annotation", "llvm.launder.invari
 
 
 def has_words(argument):
-    """A pointer that is known to be at a multiple of 8 of its frame."""
+    """A pointer that is known to be at a multiple of 8 from where its bounds begin."""
     found = re.search(r"\balign (\d+)\b", argument)
     return found is not None and int(found[1]) % 8 == 0
 

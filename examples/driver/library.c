@@ -99,7 +99,7 @@ void *calloc(size_t count, size_t size) {
     return p;
 }
 
-/* A pointer's word holds the length of its frame in its bits 21 to 41. */
+/* A pointer's word holds the length of its bounds in its bits 21 to 41. */
 void *realloc(void *old, size_t n) {
     unsigned char *from = old, *to = malloc(n);
     uint64_t length = old ? (uintptr_t)old >> 21 & 0x1fffff : 0;

@@ -5,8 +5,9 @@ ghost use Rattle.std.specs.Prelude.{◌≡◌};
 ghost use Rattle.std.specs.Process.{exit_status};
 ghost use Rattle.pg_commands.specs.Statuses.{status_code};
 
+use pg_commands::pg_free::Free;
+use pg_commands::pg_go::ByLength;
 use pg_commands::{Status, peregrine};
-use pg_free::Free;
 use pg_io::{FileShelf, ReaderSource, WriterSink};
 use std::process::ExitCode;
 
@@ -28,6 +29,7 @@ fn main(rt: HostRuntime) -> ExitCode {
     let mut shelf = FileShelf::new(rt.alloc(), &rt);
     let mut out = WriterSink::new(rt.stdout());
     let mut free = Free::new();
+    let mut crew = ByLength::new(Vec::new(rt.alloc()));
     exit_code(peregrine(
         &rt,
         rt.alloc(),
@@ -36,6 +38,7 @@ fn main(rt: HostRuntime) -> ExitCode {
         &mut shelf,
         &mut out,
         &mut free,
+        &mut crew,
     ))
 }
 

@@ -54,6 +54,21 @@ pub record IsTurnWithin (t : Turn) : Type 0 where
   pub instr : t.instr.0 < 2 ^ 32
   pub object : t.object < 2 ^ 64
 
+-- a number of 32 bits
+abbrev pub IsIdInRange : InstrId → Type 0
+IsIdInRange id = id.0 < 2 ^ 32
+
+-- numbers within the ranges of a turn's types, the thread's aside
+pub record IsTurnInRange (t : Turn) : Type 0 where
+  pub instr : t.instr.0 < 2 ^ 32
+  pub object : t.object < 2 ^ 64
+
+-- the numbers of an entry are within the ranges of their types
+pub record HasRanges (e : BookEntryParts) : Type 0 where
+  pub numbers : All IsSigned e.input
+  pub each_turn : All IsTurnInRange e.turns
+  pub ids : All IsIdInRange e.gated
+
 -- few numbers, few turns, and strictly ascending instructions, each within its range
 pub record IsWithin (e : BookEntryParts) : Type 0 where
   pub input : length e.input ≤ NUMBERS_LIMIT
@@ -62,6 +77,17 @@ pub record IsWithin (e : BookEntryParts) : Type 0 where
   pub each_turn : All IsTurnWithin e.turns
   pub gated : ascend_from 0 e.gated ≡ true
   pub ids : All (λ (id : InstrId). id.0 < 2 ^ 32) e.gated
+
+-- the limits of an entry that the types of its numbers don't have
+pub record IsLimited (e : BookEntryParts) : Type 0 where
+  pub input : length e.input ≤ NUMBERS_LIMIT
+  pub turns : length e.turns ≤ RECORDING_STEP_LIMIT
+  pub threads : All (λ (t : Turn). t.thread.0 < THREAD_LIMIT) e.turns
+  pub gated : ascend_from 0 e.gated ≡ true
+
+-- few entries, each so limited
+abbrev pub AreLimited : List BookEntryParts → Type 0
+AreLimited es = (length es ≤ CACHE_LIMIT) × All IsLimited es
 
 -- few entries, each within its limits
 abbrev pub AreWithin : List BookEntryParts → Type 0

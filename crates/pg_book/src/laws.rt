@@ -3,7 +3,7 @@
 ghost use Rattle.std.specs.Prelude.{◌≡◌, ◌≢◌, ◌⊎◌, ℕ, List};
 ghost use Rattle.pg_book.specs.declared.read.BookFault.{BookFault};
 ghost use Rattle.pg_book.specs.declared.read.BookFault.TheVariants.{OutOfMemory};
-ghost use Rattle.pg_book.specs.Books.{AreWithin, IsBook, IsFault};
+ghost use Rattle.pg_book.specs.Books.{AreLimited, AreWithin, IsBook, IsFault};
 ghost use Rattle.pg_book.specs.Parts.{BookEntryParts};
 ghost use Rattle.pg_book.specs.Texts.{book_text};
 
@@ -23,4 +23,10 @@ pub fn bytes_are_one_book_or_have_one_fault()
     ensures not_both { (bytes : List ℕ) (es : List BookEntryParts) (e : BookFault) → e ≢ OutOfMemory → IsBook bytes es → IsFault e bytes → ⊥ }
     ensures book { (bytes : List ℕ) (es fs : List BookEntryParts) → IsBook bytes es → IsBook bytes fs → es ≡ fs }
     ensures fault { (bytes : List ℕ) (e f : BookFault) → e ≢ OutOfMemory → f ≢ OutOfMemory → IsFault e bytes → IsFault f bytes → e ≡ f }
+{}
+
+/// What is read as a book has few entries, each with few numbers and few turns of threads that a program may have, and with loads
+/// and stores that ascend.
+pub fn what_is_read_is_within_limits()
+    ensures { (bytes : List ℕ) (es : List BookEntryParts) → IsBook bytes es → AreLimited es }
 {}

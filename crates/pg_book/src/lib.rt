@@ -5,6 +5,7 @@
 
 mod book;
 pub mod laws;
+mod ranges;
 mod read;
 mod values;
 mod write;

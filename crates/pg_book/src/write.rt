@@ -4,10 +4,13 @@ ghost use Rattle.std.specs.Prelude.{◌≡◌, ◌++◌, map, IfOk, OnOk};
 ghost use Rattle.serde_json.specs.Data.{Data, array};
 ghost use Rattle.serde_json.specs.View.{view};
 ghost use Rattle.serde_json.specs.Written.{compact_text};
+ghost use Rattle.pg_book.specs.Books.{AreLimited, IsBook};
 ghost use Rattle.pg_book.specs.Parts.{parts_in, parts_of};
 ghost use Rattle.pg_book.specs.Texts.{book_text, each, entry_value, id_value, integer, turn_value};
 
 use crate::book::{Book, BookEntry};
+use crate::laws::a_written_book_is_read_again;
+use crate::ranges::entries_are_ranged;
 use pg_ir::InstrId;
 use pg_run_trace::Turn;
 use serde_json::{Value, json};
@@ -94,14 +97,18 @@ fn add_entries(alloc: Global, entries: &[BookEntry], text: &mut Vec<u8>) -> Resu
     Ok(())
 }
 
-/// The text of a book. It is made turn by turn: the JSON value of a whole book would take some ten times as much memory.
+/// The text of a book. It is made turn by turn: the JSON value of a whole book would take some ten times as much memory. A book
+/// within its limits is read again from it.
 ///
 /// # Errors
 ///
 /// `AllocError` where no memory is left.
 pub fn write_book(alloc: Global, book: &Book) -> Result<Vec<u8>, AllocError>
-    ensures { IfOk result (λ text. text.items ≡ book_text (parts_in book.now)) }
+    ensures text { IfOk result (λ text. text.items ≡ book_text (parts_in book.now)) }
+    ensures again { IfOk result (λ text. AreLimited (parts_in book.now) → IsBook text.items (parts_in book.now)) }
 {
+    a_written_book_is_read_again();
+    entries_are_ranged(book.entries.as_slice());
     let mut text = Vec::new(alloc);
     text.extend_from_slice(b"{\"entries\":")?;
     add_entries(alloc, book.entries.as_slice(), &mut text)?;

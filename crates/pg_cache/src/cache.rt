@@ -71,6 +71,13 @@ impl<V: Drop> Cache<V> {
         number
     }
 
+    /// The values that are kept, oldest first.
+    pub fn values(&self) -> &[V]
+        ensures { result.now ≡ self.now.values }
+    {
+        self.values.as_slice()
+    }
+
     /// Returns the value of this number, where it is kept.
     pub fn value(&self, number: u64) -> Option<&V>
         ensures { option_copied result ≡ value_of self.now number }

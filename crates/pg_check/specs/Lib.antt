@@ -1,1 +1,2 @@
 pub mod Checked
+pub use Rattle.pg_check_rules.specs as pg_check_rules

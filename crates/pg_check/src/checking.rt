@@ -5,15 +5,15 @@ ghost use Rattle.pg_read_ast.specs.Views.{tree_of};
 ghost use Rattle.pg_check_rules.specs.Conditions.{IsUnrefused};
 ghost use Rattle.pg_check_rules.specs.Numbered.{program_of};
 ghost use Rattle.pg_check_rules.specs.declared.fault.CheckFault.TheVariants.{OutOfMemory};
-ghost use Rattle.pg_law_numbering.specs.Parsed.{IsInOrder};
+ghost use Rattle.pg_check_program.specs.pg_law_numbering.Parsed.{IsInOrder};
 ghost use Rattle.pg_check.specs.Checked.{IsProgramOf, IsFaultOf};
 
 use crate::first::first_of_module;
+use pg_check_program::pg_law_numbering::laws::an_accepted_tree_is_a_program;
 use pg_check_program::program_parts;
 use pg_check_rules::CheckFault;
 use pg_check_types::TypeNumbers;
 use pg_ir::{Program, ProgramError};
-use pg_law_numbering::laws::an_accepted_tree_is_a_program;
 use pg_read_ast::Module;
 use std::alloc::Global;
 

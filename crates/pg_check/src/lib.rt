@@ -6,4 +6,6 @@ mod first;
 mod main_function;
 
 pub use checking::check;
+pub use pg_check_program::pg_law_numbering;
+pub use pg_check_rules;
 pub use pg_check_rules::{CheckFault, CheckKind};

@@ -11,8 +11,8 @@ use Rattle.pg_read_ast.specs.Numbers.{numbered}
 use Rattle.pg_read_ast.specs.Views.{block_of, tree_of, ty_of}
 use Rattle.pg_check_types.specs.NameIndex.{known_place}
 use Rattle.pg_check_types.specs.Resolved.{resolved}
-use Rattle.pg_check_names.specs.declared.naming.OwnNames.{OwnNames}
-use Rattle.pg_check_names.specs.Registers.{register_type}
+use Rattle.pg_check_calls.specs.pg_check_names.declared.naming.OwnNames.{OwnNames}
+use Rattle.pg_check_calls.specs.pg_check_names.Registers.{register_type}
 use Rattle.pg_check_rules.specs.declared.fault.CheckKind.{CheckKind}
 use Rattle.pg_check_rules.specs.declared.fault.CheckKind.TheVariants.{BadPhi, BadSignature, TooLarge, NoMain}
 use Rattle.pg_check_rules.specs.Names.{Register, doubled, labels_of, registers_of, label_number, line_count}
@@ -22,8 +22,8 @@ use Rattle.pg_check_rules.specs.TypeConditions.{any_large}
 use Rattle.pg_check_rules.specs.LineConditions.{line_refused}
 use Rattle.pg_check_rules.specs.BlockConditions.{bad_phis, is_endless}
 use Rattle.pg_check_rules.specs.Conditions.{all_of, all_lines, body_types, scope_of, own_names, body_names, is_unfinished, is_too_large, body_refused}
-use Rattle.pg_check_values.specs.declared.scope.LineScope.{LineScope}
-use Rattle.pg_check_values.specs.Scopes.{IsLineScope}
+use Rattle.pg_check_calls.specs.pg_check_values.declared.scope.LineScope.{LineScope}
+use Rattle.pg_check_calls.specs.pg_check_values.Scopes.{IsLineScope}
 use Rattle.pg_check_bodies.specs.BodyBlocks.{bare_blocks}
 use Rattle.pg_check_bodies.specs.BodyParts.{is_large_block, whole_refused, AreOwn}
 use Rattle.pg_check_bodies.proofs.LabelPlaces.{register_place}

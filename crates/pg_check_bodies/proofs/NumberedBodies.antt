@@ -11,8 +11,8 @@ use Rattle.pg_read_ast.specs.declared.nodes.BlockNode.{BlockNode}
 use Rattle.pg_read_ast.specs.Syntax.{NamedType, Param, Line, Block, Definition}
 use Rattle.pg_read_ast.specs.Numbers.{name_at, after, each_at, behind_all, behind_param, param_at, result_at, gives, line_at, behind_line, block_at, behind_block, numbered}
 use Rattle.pg_read_ast.specs.Views.{line_of, block_of}
-use Rattle.pg_check_names.specs.declared.register_type.RegisterType.{RegisterType}
-use Rattle.pg_check_names.specs.Registers.{register_type, registers_by}
+use Rattle.pg_check_calls.specs.pg_check_names.declared.register_type.RegisterType.{RegisterType}
+use Rattle.pg_check_calls.specs.pg_check_names.Registers.{register_type, registers_by}
 use Rattle.pg_check_rules.specs.declared.fault.CheckKind.{CheckKind}
 use Rattle.pg_check_rules.specs.declared.fault.CheckKind.TheVariants.{UnknownName, Doubled, WrongType, NoBlock, BadPhi, Unsupported, BadSignature, TooLarge, NoMain}
 use Rattle.pg_check_rules.specs.Names.{Register, param_register, block_registers, registers_of, labels_of, line_count}

@@ -3,8 +3,8 @@ use Rattle.std.specs.Prelude.{◌≡◌, ℕ, Bool, List, [], length}
 use Rattle.std.specs.List.{flat_map, list_any, enumerate_from}
 use Rattle.pg_read_ast.specs.Syntax.{NamedType, Line, Block, Definition, Tree}
 use Rattle.pg_read_ast.specs.Numbers.{numbered}
-use Rattle.pg_check_names.specs.declared.naming.OwnNames.{OwnNames}
-use Rattle.pg_check_names.specs.Registers.{registers_by}
+use Rattle.pg_check_calls.specs.pg_check_names.declared.naming.OwnNames.{OwnNames}
+use Rattle.pg_check_calls.specs.pg_check_names.Registers.{registers_by}
 use Rattle.pg_check_rules.specs.declared.fault.CheckKind.TheVariants.{Doubled, NoBlock, BadPhi, TooLarge}
 use Rattle.pg_check_rules.specs.Names.{doubled, labels_of, registers_of}
 use Rattle.pg_check_rules.specs.TypeConditions.{any_large}

@@ -19,10 +19,10 @@ use crate::doubled_names::doubled_own;
 use crate::limits::{are_too_many, is_over_limits, is_unfinished};
 use crate::name_index::index_owned;
 use indexmap::IndexMap;
-use pg_check_names::{OwnNames, own_names};
+use pg_check_calls::pg_check_names::{OwnNames, own_names};
+use pg_check_calls::pg_check_values::{LineScope, ValueScope};
 use pg_check_rules::{CheckKind, CheckRefusal, Symbols, earlier_refusal, place_if, refusal_at};
 use pg_check_types::TypeNumbers;
-use pg_check_values::{LineScope, ValueScope};
 use pg_read_ast::DefineItem;
 use std::alloc::{AllocError, Global};
 

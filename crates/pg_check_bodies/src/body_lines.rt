@@ -8,13 +8,13 @@ ghost use Rattle.pg_check_rules.specs.ValueConditions.{Scope};
 ghost use Rattle.pg_check_rules.specs.LineConditions.{line_refused};
 ghost use Rattle.pg_check_rules.specs.Earliest.{IsFirstIn};
 ghost use Rattle.pg_check_rules.specs.Conditions.{all_of};
-ghost use Rattle.pg_check_values.specs.Scopes.{IsLineScope};
+ghost use Rattle.pg_check_calls.specs.pg_check_values.Scopes.{IsLineScope};
 ghost use Rattle.pg_check_bodies.specs.BodyParts.{block_refused, is_large_line, is_large_block};
 
 use crate::lines::{line_is_large, line_refusal};
+use pg_check_calls::pg_check_values::LineScope;
 use pg_check_rules::{CheckRefusal, earlier_refusal};
 use pg_check_types::TypeNumbers;
-use pg_check_values::LineScope;
 use pg_read_ast::{BlockNode, LineNode};
 use std::alloc::{AllocError, Global};
 

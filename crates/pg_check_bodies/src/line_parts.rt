@@ -9,15 +9,15 @@ ghost use Rattle.pg_check_rules.specs.TypeConditions.{unmet};
 ghost use Rattle.pg_check_rules.specs.ValueConditions.{Scope};
 ghost use Rattle.pg_check_rules.specs.CallConditions.{call_demands, value_operands};
 ghost use Rattle.pg_check_rules.specs.Written.{op_demands};
-ghost use Rattle.pg_check_values.specs.Scopes.{IsLineScope};
+ghost use Rattle.pg_check_calls.specs.pg_check_values.Scopes.{IsLineScope};
 ghost use Rattle.pg_check_calls.specs.Threads.{left_out};
 ghost use Rattle.pg_check_lines.specs.Uses.{uses_of};
 
+use pg_check_calls::pg_check_values::LineScope;
 use pg_check_calls::{call_demands, thread_argument};
 use pg_check_lines::{UseNode, op_demands, operands_of_line};
 use pg_check_rules::earlier;
 use pg_check_types::TypeNumbers;
-use pg_check_values::LineScope;
 use pg_read_ast::OpNode;
 use pg_read_lex::Span;
 use std::alloc::AllocError;

@@ -11,11 +11,12 @@ ghost use Rattle.pg_check_rules.specs.CallConditions.{value_operands};
 ghost use Rattle.pg_check_rules.specs.LineConditions.{line_types, line_refused};
 ghost use Rattle.pg_check_rules.specs.TypeConditions.{any_large};
 ghost use Rattle.pg_check_rules.specs.Earliest.{earliest, IsFirstIn};
-ghost use Rattle.pg_check_values.specs.Scopes.{IsLineScope};
+ghost use Rattle.pg_check_calls.specs.pg_check_values.Scopes.{IsLineScope};
 ghost use Rattle.pg_check_lines.specs.Uses.{uses_of};
 ghost use Rattle.pg_check_bodies.specs.Lines.{unknown_in_line, unsupported_in_line, wrong_otherwise, wrong_in_line};
 
 use crate::line_parts::{unmet_demands, value_operands};
+use pg_check_calls::pg_check_values::LineScope;
 use pg_check_calls::{
     unknown_callee, unknown_thread, unsupported_callee, unsupported_thread, wrong_call,
     wrong_thread,
@@ -29,7 +30,6 @@ use pg_check_rules::{
     refusal_at, unknown_types, wrong_types,
 };
 use pg_check_types::TypeNumbers;
-use pg_check_values::LineScope;
 use pg_read_ast::{LineNode, OpNode, TypeNode};
 use pg_read_lex::Span;
 use std::alloc::{AllocError, Global};

@@ -1,5 +1,5 @@
 -- The fields of a structure by their places.
-use Rattle.std.proofs.Common.{◌≡◌, ℕ, zero, suc, ◌+◌, ◌<◌, ◌≤◌, List, [], ◌∷◌, length, map, drop, get_or, slice_get, unwrap_or, Option, Some, None, IfSome, refl, sym, ap}
+use Rattle.std.proofs.Common.{◌≡◌, ℕ, zero, suc, ◌+◌, List, [], ◌∷◌, map, drop, get_or, slice_get, unwrap_or, Option, Some, None, IfSome, refl, sym, ap}
 use Rattle.std.proofs.Common.{◌∙◌, arith}
 use Rattle.std.proofs.lemmas.Option.{slice_get_within, same_Some}
 use Rattle.pg_check_types.specs.Resolved.{ResolvedType, VoidType}
@@ -38,16 +38,6 @@ pub number_within : (table : List ResolvedType) (ts : List ResolvedType) (k : �
 number_within table ts k None h = tt
 number_within table ts k (Some f) h = h.within
 
-there : (fs : List ℕ) (k f d : ℕ) → k < length fs → f ≡ get_or fs k d → slice_get fs k ≡ Some f
-there [] k f d l e = absurd (omega (arith, l))
-there (g ∷ fs) zero f d l e = ap (λ x. Some x) (sym e)
-there (g ∷ fs) (suc k) f d l e = there fs k f d (omega (arith, l)) e
-
--- the field at a place below their number
-pub nth_is : (table : List ResolvedType) (t : ResolvedType) (fs : List ℕ) (k f d : ℕ) → AreFields table t fs → k < length fs → f ≡ get_or fs k d
-    → IsFieldAt table (field_list t) k f
-nth_is table t fs k f d a l e = type_found table fs (field_list t) k f a (there fs k f d l e)
-
 types_over : (table : List ResolvedType) (fs : List ℕ) (ts : List ResolvedType) (k : ℕ) → map (field_type table) fs ≡ map (λ u. Some u) ts → slice_get fs k ≡ None → drop k ts ≡ []
 types_over table [] [] zero e s = refl
 types_over table [] [] (suc k) e s = refl
@@ -59,11 +49,3 @@ types_over table (g ∷ fs) (u ∷ ts) (suc k) e s = types_over table fs ts k (a
 -- there is no field behind the last
 pub fields_over : (table : List ResolvedType) (t : ResolvedType) (fs : List ℕ) (k : ℕ) → AreFields table t fs → slice_get fs k ≡ None → drop k (field_list t) ≡ []
 fields_over table t fs k a s = types_over table fs (field_list t) k a s
-
-none_there : (fs : List ℕ) (k : ℕ) → length fs ≤ k → slice_get fs k ≡ None
-none_there [] k l = refl
-none_there (g ∷ fs) zero l = absurd (omega (arith, l))
-none_there (g ∷ fs) (suc k) l = none_there fs k (omega (arith, l))
-
-pub none_behind : (table : List ResolvedType) (t : ResolvedType) (fs : List ℕ) (k : ℕ) → AreFields table t fs → length fs ≤ k → drop k (field_list t) ≡ []
-none_behind table t fs k a l = fields_over table t fs k a (none_there fs k l)

@@ -2,7 +2,6 @@ pub mod ByteLists
 pub mod ConstantBytes
 pub mod ConstantSizes
 pub mod ConstantViews
-pub mod FieldOffsets
 pub mod FieldPlaces
 pub mod GlobalRows
 pub mod GlobalSizes

@@ -1,12 +1,15 @@
 -- Types that keep within the limit of sizes, and what they are made of.
-use Rattle.std.proofs.Common.{◌≡◌, ℕ, zero, suc, ◌<◌, ◌≤◌, List, [], ◌∷◌, ◌++◌, length, drop, slice_get, Option, Some, None, IfSome, ℤ, pos, negsuc, sym}
-use Rattle.std.proofs.Common.{subst, arith}
+use Rattle.std.proofs.Common.{◌≡◌, ℕ, zero, suc, ◌+◌, ◌<◌, ◌≤◌, List, [], ◌∷◌, ◌++◌, length, drop, slice_get, Option, Some, None, IfSome, ℤ, pos, negsuc, sym}
+use Rattle.std.proofs.Common.{subst, ◌∙◌, arith}
+use Rattle.std.proofs.Math.Nat.{min-eq_left}
 use Rattle.std.specs.List.{AllByRecursion}
 use Rattle.pg_num.specs.declared.limits.TheConstants.{SIZE_LIMIT}
 use Rattle.pg_num.specs.declared.width.Width.{Width}
 use Rattle.pg_num.specs.declared.width.Width.TheVariants.{W1, W8, W16, W32, W64}
+use Rattle.pg_check_types.specs.declared.cap.TheConstants.{LAYOUT_CAP}
 use Rattle.pg_check_types.specs.Resolved.{ResolvedType, IntegerType, PointerType, VoidType, ArrayType, NoFields, MoreFields}
-use Rattle.pg_check_types.specs.Layout.{bytes_of, alignment_of, size_of, fields_end, field_list, size_or_none}
+use Rattle.pg_check_types.specs.Layout.{bytes_of, alignment_of, size_of, fields_end, next_offset, field_list, size_or_none}
+use Rattle.pg_check_types.specs.Capped.{capped}
 use Rattle.pg_check_types.specs.Table.{type_at}
 use Rattle.pg_check_types.specs.Known.{denoted, IsWithin}
 use Rattle.pg_check_types.proofs.Alignments.{aligned, rounds_up, end_within}
@@ -46,6 +49,14 @@ own_end t h = omega (arith, end_within t, own_size t h)
 pub front_end : (s t : ResolvedType) → fields_end s ≤ fields_end (MoreFields s t)
 unfolding fields_end
 front_end s t = omega (arith, rounds_up (fields_end s) (alignment_of t) (aligned t))
+
+-- where a field ends that comes behind those of another structure, that structure does too
+pub end_small : (s t : ResolvedType) → next_offset s t + size_of t ≤ SIZE_LIMIT → fields_end s ≤ SIZE_LIMIT
+end_small s t h = omega (arith, rounds_up (fields_end s) (alignment_of t) (aligned t), h)
+
+-- so its end is kept exactly
+pub end_kept : (s t : ResolvedType) (end : ℕ) → end ≡ capped (fields_end s) → next_offset s t + size_of t ≤ SIZE_LIMIT → end ≡ fields_end s
+end_kept s t end e h = let l = end_small s t h in let m : fields_end s ≤ LAYOUT_CAP = omega (arith, l) in e ∙ min-eq_left m
 
 -- ---- fields
 

@@ -1,14 +1,13 @@
 //! Where the fields of a structure lie.
 
-ghost use Rattle.std.specs.Prelude.{◌≡◌, ◌<◌, ◌≤◌, ◌+◌, length, slice_get, unwrap_or};
+ghost use Rattle.std.specs.Prelude.{◌≡◌, ◌<◌, ◌≤◌, ◌+◌, length};
 ghost use Rattle.pg_num.specs.declared.limits.TheConstants.{SIZE_LIMIT};
-ghost use Rattle.pg_check_types.specs.Layout.{size_of, size_or_none, fields_end, alignment_of, round_up, field_offsets};
+ghost use Rattle.pg_check_types.specs.Layout.{size_of, size_or_none, alignment_of, round_up, next_offset};
 ghost use Rattle.pg_check_types.specs.Table.{type_at};
 ghost use Rattle.pg_check_types.specs.Known.{denoted, IsWithin};
 ghost use Rattle.pg_check_types.specs.NumberedTypes.{table_of};
-ghost use Rattle.pg_check_rules.specs.Constants.{offset_at};
-ghost use Rattle.pg_check_rules.specs.Fields.{AreFields};
 
+use pg_check_rules::LastField;
 use pg_check_types::{KnownTypes, round_up};
 
 /// The size of a type in bytes.
@@ -58,42 +57,15 @@ pub(crate) fn field_range(types: &KnownTypes<'_>, at: u32, number: usize) -> Fie
     }
 }
 
-/// Where the field at a place of a structure begins, whose fields these are; 0 where there is none.
-fn field_offset(types: &KnownTypes<'_>, number: usize, fields: &[usize], place: usize) -> u32
-    requires fields { AreFields (table_of types.now) (type_at (table_of types.now) number) fields.now }
-    requires fits { fields_end (type_at (table_of types.now) number) ≤ SIZE_LIMIT }
-    ensures { result ≡ unwrap_or (slice_get (field_offsets (type_at (table_of types.now) number)) place) 0 }
+/// Where a field begins that comes behind those of another structure.
+pub(crate) fn offset_behind(types: &KnownTypes<'_>, last: LastField) -> u32
+    requires front { last.front < length (table_of types.now) }
+    requires field { last.field < length (table_of types.now) }
+    requires fits { next_offset (type_at (table_of types.now) last.front) (type_at (table_of types.now) last.field)
+        + size_of (type_at (table_of types.now) last.field) ≤ SIZE_LIMIT }
+    ensures { result ≡ next_offset (type_at (table_of types.now) last.front) (type_at (table_of types.now) last.field) }
 {
-    let mut at = 0;
-    for (index, field) in fields.iter().enumerate() {
-        let range = field_range(types, at, *field);
-        if index == place {
-            return range.start;
-        }
-        at = range.end;
-    }
-    0
-}
-
-/// Where the field begins that an index chooses of a structure, whose fields these are; 0 where it chooses none.
-pub(crate) fn offset_at(
-    types: &KnownTypes<'_>,
-    number: usize,
-    fields: &[usize],
-    index: Option<i64>,
-) -> u32
-    requires fields { AreFields (table_of types.now) (type_at (table_of types.now) number) fields.now }
-    requires fits { fields_end (type_at (table_of types.now) number) ≤ SIZE_LIMIT }
-    ensures { result ≡ offset_at (type_at (table_of types.now) number) index }
-{
-    match index {
-        Some(index) => {
-            if index < 0 {
-                0
-            } else {
-                field_offset(types, number, fields, index as usize)
-            }
-        }
-        None => 0,
-    }
+    let front = types.layout_of_number(last.front);
+    let range = field_range(types, front.fields_end, last.field);
+    range.start
 }

@@ -15,8 +15,8 @@ ghost use Rattle.pg_check_rules.specs.Constants.{index_move, offset_at};
 ghost use Rattle.pg_check_constants.specs.Sizes.{AllFit, TypeFits};
 ghost use Rattle.pg_check_constants.specs.Indices.{scale_within, type_within, scales_within, scales_of, moves_of};
 
-use crate::fields::{offset_at, size_of, size_or_none};
-use pg_check_rules::{field_chosen, fields_of};
+use crate::fields::{offset_behind, size_of, size_or_none};
+use pg_check_rules::chosen_of;
 use pg_check_types::{KnownTypes, Shape, TypeNumbers};
 use pg_ir::Scale;
 use pg_num::move_by;
@@ -31,25 +31,23 @@ struct IndexStep {
 }
 
 /// How an index moves within a structure.
-fn step_into_fields(
-    alloc: Global,
-    types: &KnownTypes<'_>,
-    number: usize,
-    index: Option<i64>,
-) -> Result<IndexStep, AllocError>
+fn step_into_fields(types: &KnownTypes<'_>, number: usize, index: Option<i64>) -> IndexStep
     requires within { number < length (table_of types.now) }
     requires fits { fields_end (type_at (table_of types.now) number) ≤ SIZE_LIMIT }
-    ensures scale { IfOk result (λ r. r.scale ≡ scales.Field (offset_at (type_at (table_of types.now) number) index)) }
-    ensures next { IfOk result (λ r. denoted (table_of types.now) r.next ≡ field_at (type_at (table_of types.now) number) index) }
-    ensures within { IfOk result (λ r. IsWithin (table_of types.now) r.next) }
+    ensures scale { result.scale ≡ scales.Field (offset_at (type_at (table_of types.now) number) index) }
+    ensures next { denoted (table_of types.now) result.next ≡ field_at (type_at (table_of types.now) number) index }
+    ensures within { IsWithin (table_of types.now) result.next }
 {
-    let fields = fields_of(alloc, types, number)?;
-    let fields = fields.as_slice();
-    let offset = offset_at(types, number, fields, index);
-    Ok(IndexStep {
-        scale: Scale::Field(offset),
-        next: field_chosen(fields, index),
-    })
+    match chosen_of(types, number, index) {
+        Some(last) => IndexStep {
+            scale: Scale::Field(offset_behind(types, last)),
+            next: Some(last.field),
+        },
+        None => IndexStep {
+            scale: Scale::Field(0),
+            next: None,
+        },
+    }
 }
 
 /// How an index moves by whole elements.
@@ -67,18 +65,12 @@ fn step_into_elements(types: &KnownTypes<'_>, element: usize) -> IndexStep
 }
 
 /// How an index moves within a type.
-fn step(
-    alloc: Global,
-    types: &KnownTypes<'_>,
-    number: Option<usize>,
-    index: Option<i64>,
-) -> Result<IndexStep, AllocError>
+fn step(types: &KnownTypes<'_>, number: Option<usize>, index: Option<i64>) -> IndexStep
     requires within { IsWithin (table_of types.now) number }
     requires fits { IfSome (denoted (table_of types.now) number) AllFit }
-    ensures scale { IfOk result (λ r. r.scale ≡ scale_within (denoted (table_of types.now) number) index) }
-    ensures next { IfOk result (λ r. denoted (table_of types.now) r.next ≡
-        type_within (denoted (table_of types.now) number) index) }
-    ensures within { IfOk result (λ r. IsWithin (table_of types.now) r.next) }
+    ensures scale { result.scale ≡ scale_within (denoted (table_of types.now) number) index }
+    ensures next { denoted (table_of types.now) result.next ≡ type_within (denoted (table_of types.now) number) index }
+    ensures within { IsWithin (table_of types.now) result.next }
 {
     let still = IndexStep {
         scale: Scale::Times(0),
@@ -86,11 +78,11 @@ fn step(
     };
     match number {
         Some(number) => match types.shape_of_number(number) {
-            Shape::Array(_, element) => Ok(step_into_elements(types, element)),
-            Shape::MoreFields(_, _) => step_into_fields(alloc, types, number, index),
-            _ => Ok(still),
+            Shape::Array(_, element) => step_into_elements(types, element),
+            Shape::MoreFields(_, _) => step_into_fields(types, number, index),
+            _ => still,
         },
-        None => Ok(still),
+        None => still,
     }
 }
 
@@ -108,7 +100,7 @@ fn scales_within(
     let mut scales = Vec::new(alloc);
     let mut current = number;
     for index in indices {
-        let step = step(alloc, types, current, *index)?;
+        let step = step(types, current, *index);
         scales.push(step.scale)?;
         current = step.next;
     }

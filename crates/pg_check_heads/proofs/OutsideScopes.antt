@@ -7,7 +7,7 @@ use Rattle.pg_read_ast.specs.Syntax.{Tree}
 use Rattle.pg_read_ast.specs.Views.{tree_of}
 use Rattle.pg_check_rules.specs.Names.{register_number}
 use Rattle.pg_check_rules.specs.Conditions.{outside}
-use Rattle.pg_check_names.specs.Registers.{register_type}
+use Rattle.pg_check_values.specs.pg_check_names.Registers.{register_type}
 use Rattle.pg_check_values.specs.declared.scope.ValueScope.{ValueScope}
 use Rattle.pg_check_values.specs.Scopes.{IsScope}
 

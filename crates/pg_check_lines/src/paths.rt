@@ -13,9 +13,9 @@ ghost use Rattle.pg_check_rules.specs.Earliest.{earliest};
 ghost use Rattle.pg_check_values.specs.Scopes.{IsLineScope};
 ghost use Rattle.pg_check_lines.specs.Results.{is_value_kind};
 
-use pg_check_names::gives;
 use pg_check_rules::place_if;
 use pg_check_types::{TypeKind, TypeNumbers};
+use pg_check_values::pg_check_names::gives;
 use pg_check_values::{LineScope, wrong_indices};
 use pg_read_ast::{Name, OpNode};
 use pg_read_lex::Span;

@@ -22,35 +22,31 @@ use std::alloc::AllocError;
 /// A value of a `phi`, and the number of the basic block that it comes from.
 fn incoming_at(
     scope: &FunctionScope<'_>,
-    types: &TypeNumbers<'_>,
     ty: &TypeNode,
     incoming: &IncomingNode,
 ) -> Result<Incoming, AllocError>
-    requires items { types.now.items ≡ scope.now.globals.now.symbols.tree.now.types.items }
     requires value { IncomingIsSmall scope.now (incoming_of incoming.now) }
     ensures incoming { (names : ScopeNames scope.now) →
         IfOk result (λ i. i ≡ incoming_at (scope_in scope.now names) scope.now.first (ty_of ty.now) (incoming_of incoming.now)) }
 {
     let block = block_at(scope, &incoming.block);
-    let value = value_at(scope, types, ty, &incoming.value)?;
+    let value = value_at(scope, ty, &incoming.value)?;
     Ok(Incoming { block, value })
 }
 
 /// Adds the values of a `phi`.
 fn add_incomings(
     scope: &FunctionScope<'_>,
-    types: &TypeNumbers<'_>,
     ty: &TypeNode,
     found: &mut Vec<Incoming>,
     all: &[IncomingNode],
 ) -> Result<(), AllocError>
-    requires items { types.now.items ≡ scope.now.globals.now.symbols.tree.now.types.items }
     requires values { Each (IncomingIsSmall scope.now) (map incoming_of all.now) }
     ensures incomings { (names : ScopeNames scope.now) → OnOk result (found.new.items ≡ found.old.items
         ++ map (incoming_at (scope_in scope.now names) scope.now.first (ty_of ty.now)) (map incoming_of all.now)) }
 {
     for incoming in all {
-        let one = incoming_at(scope, types, ty, incoming)?;
+        let one = incoming_at(scope, ty, incoming)?;
         found.push(one)?;
     }
     Ok(())
@@ -59,21 +55,19 @@ fn add_incomings(
 /// The values of a `phi`: the first and the others.
 pub(crate) fn incomings_at(
     scope: &FunctionScope<'_>,
-    types: &TypeNumbers<'_>,
     ty: &TypeNode,
     first: &IncomingNode,
     others: &[IncomingNode],
 ) -> Result<Vec<Incoming>, AllocError>
-    requires items { types.now.items ≡ scope.now.globals.now.symbols.tree.now.types.items }
     requires first { IncomingIsSmall scope.now (incoming_of first.now) }
     requires others { Each (IncomingIsSmall scope.now) (map incoming_of others.now) }
     ensures incomings { (names : ScopeNames scope.now) → IfOk result (λ v. v.items ≡
         map (incoming_at (scope_in scope.now names) scope.now.first (ty_of ty.now)) (incoming_of first.now ∷ map incoming_of others.now)) }
 {
-    let one = incoming_at(scope, types, ty, first)?;
+    let one = incoming_at(scope, ty, first)?;
     let mut found = Vec::new(scope.globals.alloc);
     found.push(one)?;
-    add_incomings(scope, types, ty, &mut found, others)?;
+    add_incomings(scope, ty, &mut found, others)?;
     Ok(found)
 }
 
@@ -86,17 +80,11 @@ fn case_number(types: &TypeNumbers<'_>, ty: &TypeNode, value: &TypedVal) -> Resu
 }
 
 /// A case of a `switch`, and the number of its basic block.
-fn case_at(
-    scope: &FunctionScope<'_>,
-    types: &TypeNumbers<'_>,
-    ty: &TypeNode,
-    case: &CaseNode,
-) -> Result<Case, AllocError>
-    requires { types.now.items ≡ scope.now.globals.now.symbols.tree.now.types.items }
+fn case_at(scope: &FunctionScope<'_>, ty: &TypeNode, case: &CaseNode) -> Result<Case, AllocError>
     ensures case { (names : ScopeNames scope.now) →
         IfOk result (λ i. i ≡ case_at (scope_in scope.now names) scope.now.first (ty_of ty.now) (case_of case.now)) }
 {
-    let value = case_number(types, ty, &case.value)?;
+    let value = case_number(scope.types, ty, &case.value)?;
     let to = block_at(scope, &case.block);
     Ok(Case { value, to })
 }
@@ -104,17 +92,15 @@ fn case_at(
 /// The cases of a `switch`.
 pub(crate) fn cases_at(
     scope: &FunctionScope<'_>,
-    types: &TypeNumbers<'_>,
     ty: &TypeNode,
     cases: &[CaseNode],
 ) -> Result<Vec<Case>, AllocError>
-    requires { types.now.items ≡ scope.now.globals.now.symbols.tree.now.types.items }
     ensures cases { (names : ScopeNames scope.now) → IfOk result (λ v. v.items ≡
         map (case_at (scope_in scope.now names) scope.now.first (ty_of ty.now)) (map case_of cases.now)) }
 {
     let mut found = Vec::new(scope.globals.alloc);
     for case in cases {
-        let one = case_at(scope, types, ty, case)?;
+        let one = case_at(scope, ty, case)?;
         found.push(one)?;
     }
     Ok(found)

@@ -70,13 +70,14 @@ pub(crate) fn add_function(
     let labels = name_places(globals.alloc, label_names)?;
     let scope = FunctionScope {
         globals,
+        types,
         registers: &registers,
         labels: &labels,
         first,
     };
     let params = item.params.as_slice();
     let blocks = item.blocks.as_slice();
-    add_block_lines(&scope, types, found, names, params.len(), blocks)?;
+    add_block_lines(&scope, found, names, params.len(), blocks)?;
     Ok(())
 }
 

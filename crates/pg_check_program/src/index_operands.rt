@@ -12,25 +12,18 @@ use crate::function_scope::FunctionScope;
 use crate::operands::{typed_value, typed_width};
 use pg_check_constants::index_scales;
 use pg_check_rules::index_numbers;
-use pg_check_types::TypeNumbers;
 use pg_ir::{Index, Scale};
 use pg_read_ast::{TypeNode, TypedVal};
 use std::alloc::AllocError;
 
 /// An index of a `getelementptr`.
-fn index_at(
-    scope: &FunctionScope<'_>,
-    types: &TypeNumbers<'_>,
-    index: &TypedVal,
-    scale: Scale,
-) -> Result<Index, AllocError>
-    requires items { types.now.items ≡ scope.now.globals.now.symbols.tree.now.types.items }
+fn index_at(scope: &FunctionScope<'_>, index: &TypedVal, scale: Scale) -> Result<Index, AllocError>
     requires value { TypedIsSmall scope.now (typed_of index.now) }
     ensures index { (names : ScopeNames scope.now) →
         IfOk result (λ i. i ≡ index_at (scope_in scope.now names) (typed_of index.now) scale) }
 {
-    let value = typed_value(scope, types, index)?;
-    let width = typed_width(scope, types, index)?;
+    let value = typed_value(scope, index)?;
+    let width = typed_width(scope, index)?;
     Ok(Index {
         value,
         width,
@@ -41,19 +34,17 @@ fn index_at(
 /// Indices that move as they are scaled.
 fn scaled_indices(
     scope: &FunctionScope<'_>,
-    types: &TypeNumbers<'_>,
     indices: &[TypedVal],
     scales: &[Scale],
 ) -> Result<Vec<Index>, AllocError>
     requires lengths { length indices.now ≡ length scales.now }
-    requires items { types.now.items ≡ scope.now.globals.now.symbols.tree.now.types.items }
     requires values { Each (TypedIsSmall scope.now) (map typed_of indices.now) }
     ensures indices { (names : ScopeNames scope.now) →
         IfOk result (λ v. v.items ≡ indices_at (scope_in scope.now names) (map typed_of indices.now) scales.now) }
 {
     let mut found = Vec::new(scope.globals.alloc);
     for place in 0..scales.len() {
-        let one = index_at(scope, types, &indices[place], scales[place])?;
+        let one = index_at(scope, &indices[place], scales[place])?;
         found.push(one)?;
     }
     Ok(found)
@@ -63,33 +54,29 @@ fn scaled_indices(
 #[tactic(auto, using(pg_check_constants::proofs::ScaleSteps::index_scales_are))]
 fn scales_at(
     scope: &FunctionScope<'_>,
-    types: &TypeNumbers<'_>,
     ty: &TypeNode,
     indices: &[TypedVal],
 ) -> Result<Vec<Scale>, AllocError>
-    requires items { types.now.items ≡ scope.now.globals.now.symbols.tree.now.types.items }
     requires ty { TyIsSmall scope.now (ty_of ty.now) }
     ensures scales { IfOk result (λ v. v.items ≡
         index_scales (tree_of scope.now.globals.now.symbols.tree.now).types (ty_of ty.now) (map typed_of indices.now)) }
 {
-    let numbers = index_numbers(scope.globals.alloc, types, indices)?;
-    index_scales(scope.globals.alloc, types, ty, numbers.as_slice())
+    let numbers = index_numbers(scope.globals.alloc, scope.types, indices)?;
+    index_scales(scope.globals.alloc, scope.types, ty, numbers.as_slice())
 }
 
 /// The indices of a `getelementptr` into a type.
 pub(crate) fn indices_at(
     scope: &FunctionScope<'_>,
-    types: &TypeNumbers<'_>,
     ty: &TypeNode,
     indices: &[TypedVal],
 ) -> Result<Vec<Index>, AllocError>
-    requires items { types.now.items ≡ scope.now.globals.now.symbols.tree.now.types.items }
     requires ty { TyIsSmall scope.now (ty_of ty.now) }
     requires values { Each (TypedIsSmall scope.now) (map typed_of indices.now) }
     ensures indices { (names : ScopeNames scope.now) → IfOk result (λ v. v.items ≡
         indices_at (scope_in scope.now names) (map typed_of indices.now)
         (index_scales (tree_of scope.now.globals.now.symbols.tree.now).types (ty_of ty.now) (map typed_of indices.now))) }
 {
-    let scales = scales_at(scope, types, ty, indices)?;
-    scaled_indices(scope, types, indices, scales.as_slice())
+    let scales = scales_at(scope, ty, indices)?;
+    scaled_indices(scope, indices, scales.as_slice())
 }

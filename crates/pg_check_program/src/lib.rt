@@ -14,4 +14,5 @@ mod operations;
 mod program;
 mod scope;
 
+pub use pg_law_numbering;
 pub use program::{ProgramParts, is_main, program_parts};

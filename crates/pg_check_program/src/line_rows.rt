@@ -13,7 +13,7 @@ ghost use Rattle.pg_check_program.specs.LineRows.{result_by, names_after, op_ins
 use crate::function_scope::FunctionScope;
 use crate::instructions::op_at;
 use pg_check_names::gives;
-use pg_check_types::{TypeNumbers, place_of_name};
+use pg_check_types::place_of_name;
 use pg_ir::{BlockNo, Instr};
 use pg_read_ast::{BlockNode, LineNode, Name, OpNode};
 use std::alloc::AllocError;
@@ -74,21 +74,19 @@ fn place_after(has_result: bool, names: &[Name], at: usize) -> usize
 /// The instruction of an operation. Where that has a result, the name at a place is the result's.
 fn op_instr(
     scope: &FunctionScope<'_>,
-    types: &TypeNumbers<'_>,
     block: u32,
     has_result: bool,
     names: &[Name],
     at: usize,
     op: &OpNode,
 ) -> Result<Instr, AllocError>
-    requires items { types.now.items ≡ scope.now.globals.now.symbols.tree.now.types.items }
     requires given { has_result ≡ gives (types_in scope.now) (op_of op.now) }
     requires fits { OpFits (types_in scope.now) (op_of op.now) }
     ensures instr { (own : ScopeNames scope.now) → IfOk result (λ i. i ≡
         op_instr (scope_in scope.now own) scope.now.first block (drop at names.now) (op_of op.now)) }
 {
     let result = result_by(scope, has_result, names, at);
-    let op = op_at(scope, types, op)?;
+    let op = op_at(scope, op)?;
     Ok(Instr {
         op,
         block: BlockNo(block),
@@ -100,14 +98,12 @@ fn op_instr(
 /// them begin at the place that is returned.
 fn add_lines(
     scope: &FunctionScope<'_>,
-    types: &TypeNumbers<'_>,
     found: &mut Vec<Instr>,
     block: u32,
     names: &[Name],
     start: usize,
     lines: &[LineNode],
 ) -> Result<usize, AllocError>
-    requires items { types.now.items ≡ scope.now.globals.now.symbols.tree.now.types.items }
     requires fits { Each (LineFits (types_in scope.now)) (map line_of lines.now) }
     ensures instrs { (own : ScopeNames scope.now) → OnOk result (found.new.items ≡ found.old.items
         ++ lines_by (scope_in scope.now own) scope.now.first block (drop start names.now) (map line_of lines.now)) }
@@ -116,8 +112,8 @@ fn add_lines(
 {
     let mut at = start;
     for line in lines {
-        let has_result = gives(types, &line.op)?;
-        let one = op_instr(scope, types, block, has_result, names, at, &line.op)?;
+        let has_result = gives(scope.types, &line.op)?;
+        let one = op_instr(scope, block, has_result, names, at, &line.op)?;
         found.push(one)?;
         at = place_after(has_result, names, at);
     }
@@ -127,13 +123,11 @@ fn add_lines(
 /// Adds the instructions of a function's basic blocks. The names of their results begin at a place.
 pub(crate) fn add_block_lines(
     scope: &FunctionScope<'_>,
-    types: &TypeNumbers<'_>,
     found: &mut Vec<Instr>,
     names: &[Name],
     start: usize,
     blocks: &[BlockNode],
 ) -> Result<(), AllocError>
-    requires items { types.now.items ≡ scope.now.globals.now.symbols.tree.now.types.items }
     requires room { scope.now.first + length blocks.now ≤ INSTRUCTION_LIMIT }
     requires fits { Each (BlockFits (types_in scope.now)) (map block_of blocks.now) }
     ensures instrs { (own : ScopeNames scope.now) → OnOk result (found.new.items ≡ found.old.items
@@ -143,7 +137,7 @@ pub(crate) fn add_block_lines(
     let mut number = scope.first;
     for block in blocks {
         let lines = block.lines.as_slice();
-        at = add_lines(scope, types, found, number, names, at, lines)?;
+        at = add_lines(scope, found, number, names, at, lines)?;
         number += 1;
     }
     Ok(())

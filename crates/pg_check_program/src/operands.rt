@@ -59,11 +59,9 @@ fn constant_at(
 #[tactic(auto, unfolding(pg_check_rules::specs::Numbered::value_of))]
 pub(crate) fn value_at(
     scope: &FunctionScope<'_>,
-    types: &TypeNumbers<'_>,
     ty: &TypeNode,
     value: &ValNode,
 ) -> Result<Value, AllocError>
-    requires items { types.now.items ≡ scope.now.globals.now.symbols.tree.now.types.items }
     requires value { ValIsSmall scope.now (val_of value.now) }
     ensures value { (names : ScopeNames scope.now) →
         IfOk result (λ v. v ≡ value_at (scope_in scope.now names) (ty_of ty.now) (val_of value.now)) }
@@ -74,22 +72,17 @@ pub(crate) fn value_at(
             &scope.globals.symbols,
             name.text.as_slice(),
         ))),
-        _ => constant_at(scope.globals, types, ty, value),
+        _ => constant_at(scope.globals, scope.types, ty, value),
     }
 }
 
 /// A value at the type that is written before it.
-pub(crate) fn typed_value(
-    scope: &FunctionScope<'_>,
-    types: &TypeNumbers<'_>,
-    value: &TypedVal,
-) -> Result<Value, AllocError>
-    requires items { types.now.items ≡ scope.now.globals.now.symbols.tree.now.types.items }
+pub(crate) fn typed_value(scope: &FunctionScope<'_>, value: &TypedVal) -> Result<Value, AllocError>
     requires value { TypedIsSmall scope.now (typed_of value.now) }
     ensures value { (names : ScopeNames scope.now) →
         IfOk result (λ v. v ≡ typed_value (scope_in scope.now names) (typed_of value.now)) }
 {
-    value_at(scope, types, &value.ty, &value.value)
+    value_at(scope, &value.ty, &value.value)
 }
 
 fn kind_width(kind: Option<TypeKind>) -> Width
@@ -103,44 +96,29 @@ fn kind_width(kind: Option<TypeKind>) -> Width
 
 /// The width of a type's values: of an integer its own, and else 64 bits.
 #[tactic(auto, using(crate::proofs::KindWords::width_of_kind))]
-pub(crate) fn width_at(
-    scope: &FunctionScope<'_>,
-    types: &TypeNumbers<'_>,
-    ty: &TypeNode,
-) -> Result<Width, AllocError>
-    requires { types.now.items ≡ scope.now.globals.now.symbols.tree.now.types.items }
+pub(crate) fn width_at(scope: &FunctionScope<'_>, ty: &TypeNode) -> Result<Width, AllocError>
     ensures width { (names : ScopeNames scope.now) →
         IfOk result (λ w. w ≡ width_in (type_in (scope_in scope.now names) (ty_of ty.now))) }
 {
-    let kind = types.kind(ty)?;
+    let kind = scope.types.kind(ty)?;
     Ok(kind_width(kind))
 }
 
 /// The width of the type that is written before a value.
-pub(crate) fn typed_width(
-    scope: &FunctionScope<'_>,
-    types: &TypeNumbers<'_>,
-    value: &TypedVal,
-) -> Result<Width, AllocError>
-    requires { types.now.items ≡ scope.now.globals.now.symbols.tree.now.types.items }
+pub(crate) fn typed_width(scope: &FunctionScope<'_>, value: &TypedVal) -> Result<Width, AllocError>
     ensures width { (names : ScopeNames scope.now) →
         IfOk result (λ w. w ≡ width_in (type_in (scope_in scope.now names) (typed_of value.now).ty)) }
 {
-    width_at(scope, types, &value.ty)
+    width_at(scope, &value.ty)
 }
 
 /// The size of a type in bytes, and 0 of one that is none.
-pub(crate) fn size_at(
-    scope: &FunctionScope<'_>,
-    types: &TypeNumbers<'_>,
-    ty: &TypeNode,
-) -> Result<u32, AllocError>
-    requires items { types.now.items ≡ scope.now.globals.now.symbols.tree.now.types.items }
+pub(crate) fn size_at(scope: &FunctionScope<'_>, ty: &TypeNode) -> Result<u32, AllocError>
     requires ty { TyIsSmall scope.now (ty_of ty.now) }
     ensures size { (names : ScopeNames scope.now) →
         IfOk result (λ n. n ≡ size_or_none (type_in (scope_in scope.now names) (ty_of ty.now))) }
 {
-    let mut known = KnownTypes::new(types);
+    let mut known = KnownTypes::new(scope.types);
     let number = known.number(ty)?;
     Ok(size_or_none(&known, number))
 }
@@ -148,17 +126,15 @@ pub(crate) fn size_at(
 /// The values of arguments.
 pub(crate) fn values_at(
     scope: &FunctionScope<'_>,
-    types: &TypeNumbers<'_>,
     values: &[TypedVal],
 ) -> Result<Vec<Value>, AllocError>
-    requires items { types.now.items ≡ scope.now.globals.now.symbols.tree.now.types.items }
     requires values { Each (TypedIsSmall scope.now) (map typed_of values.now) }
     ensures values { (names : ScopeNames scope.now) →
         IfOk result (λ v. v.items ≡ map (typed_value (scope_in scope.now names)) (map typed_of values.now)) }
 {
     let mut found = Vec::new(scope.globals.alloc);
     for value in values {
-        let one = typed_value(scope, types, value)?;
+        let one = typed_value(scope, value)?;
         found.push(one)?;
     }
     Ok(found)

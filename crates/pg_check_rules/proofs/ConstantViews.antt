@@ -1,6 +1,6 @@
 -- Constants by what is written.
 use Rattle.std.proofs.Common.{◌≡◌, map, Vec, Global}
-use Rattle.pg_read_lex.specs.declared.token.Span.{Span}
+use Rattle.pg_read_ast.specs.pg_read_lex.declared.token.Span.{Span}
 use Rattle.pg_read_ast.specs.declared.values.TypedConst.{TypedConst}
 use Rattle.pg_read_ast.specs.declared.values.ValNode.{ValNode}
 use Rattle.pg_read_ast.specs.declared.values.ConstNode.{roll-ConstNode}

@@ -5,7 +5,7 @@ use Rattle.std.specs.List.{list_any}
 use Rattle.std.specs.Str.{bytes_eq}
 use Rattle.std.proofs.lemmas.Bool.Decides.{nat_tests}
 use Rattle.pg_read_ast.specs.declared.names.Name.{Name}
-use Rattle.pg_read_lex.specs.declared.token.Span.{Span}
+use Rattle.pg_read_ast.specs.pg_read_lex.declared.token.Span.{Span}
 use Rattle.pg_check_rules.specs.Names.{doubled}
 use Rattle.pg_check_rules.specs.Conditions.{at_if}
 use Rattle.pg_check_rules.specs.Earliest.{earliest}

@@ -1,6 +1,6 @@
 -- The definitions on small programs.
 use Rattle.std.proofs.Common.{◌≡◌, ℕ, List, [], ◌∷◌, ◌++◌, Some, None, refl, codes, map, true, false}
-use Rattle.pg_read_lex.specs.declared.token.Span.{Span}
+use Rattle.pg_read_ast.specs.pg_read_lex.declared.token.Span.{Span}
 use Rattle.pg_read_ast.specs.declared.names.Name.{Name}
 use Rattle.pg_read_ast.specs.declared.names.Literal.{Literal}
 use Rattle.pg_read_ast.specs.declared.ops.BinaryOp.TheVariants as binary

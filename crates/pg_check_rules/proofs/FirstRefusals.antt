@@ -6,7 +6,7 @@ use Rattle.std.specs.List.{enumerate_from}
 use Rattle.std.proofs.lemmas.Bool.Decides.{nat_tests}
 use Rattle.std.proofs.lemmas.List.{append-nil}
 use Rattle.std.proofs.lemmas.List.Elements.{Contains-append_left, Contains-append_right, Contains-append_cases}
-use Rattle.pg_read_lex.specs.declared.token.Span.{Span}
+use Rattle.pg_read_ast.specs.pg_read_lex.declared.token.Span.{Span}
 use Rattle.pg_check_rules.specs.declared.fault.CheckKind.{CheckKind}
 use Rattle.pg_check_rules.specs.declared.refusals.CheckRefusal.{CheckRefusal}
 use Rattle.pg_check_rules.specs.Conditions.{RefusedPlaces, all_of, rank, NoLater, IsEarliest, RefusesNothing}

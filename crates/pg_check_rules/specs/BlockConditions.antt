@@ -2,7 +2,7 @@
 use Rattle.std.specs.Prelude.{ℕ, ◌&&◌, ◌==◌, Bool, true, false, not, if◌then◌else◌, List, [], ◌∷◌, ◌++◌, drop, Option, Some, None, is_some}
 use Rattle.std.specs.List.{flat_map, filter_map, list_any, list_all, prefix_len}
 use Rattle.std.specs.Str.{bytes_eq}
-use Rattle.pg_read_lex.specs.declared.token.Span.{Span}
+use Rattle.pg_read_ast.specs.pg_read_lex.declared.token.Span.{Span}
 use Rattle.pg_read_ast.specs.declared.names.Name.{Name}
 use Rattle.pg_read_ast.specs.Syntax.{Op, Phi, Line, Block}
 use Rattle.pg_check_rules.specs.Names.{label_number}

@@ -1,7 +1,7 @@
 -- When a call is refused.
 use Rattle.std.specs.Prelude.{nat_lt, ◌&&◌, ◌||◌, Bool, true, false, not, if◌then◌else◌, List, [], ◌∷◌, ◌++◌, map, length, take, drop, Option, Some, None, is_some}
 use Rattle.std.specs.List.{list_all, filter_map}
-use Rattle.pg_read_lex.specs.declared.token.Span.{Span}
+use Rattle.pg_read_ast.specs.pg_read_lex.declared.token.Span.{Span}
 use Rattle.pg_ir.specs.declared.library_call.LibraryCall.{LibraryCall}
 use Rattle.pg_ir.specs.declared.library_call.LibraryCall.TheVariants.{PthreadCreate}
 use Rattle.pg_read_ast.specs.declared.names.Name.{Name}

@@ -1,6 +1,6 @@
 -- The earliest of places, and the first refusal of a part.
 use Rattle.std.specs.Prelude.{nat_lt, if◌then◌else◌, ◌==◌, List, [], ◌∷◌, ◌++◌, Option, Some, None}
-use Rattle.pg_read_lex.specs.declared.token.Span.{Span}
+use Rattle.pg_read_ast.specs.pg_read_lex.declared.token.Span.{Span}
 use Rattle.pg_check_rules.specs.declared.fault.CheckKind.{CheckKind}
 use Rattle.pg_check_rules.specs.declared.fault.CheckKind.TheVariants.{UnknownName, Doubled, WrongType}
 use Rattle.pg_check_rules.specs.declared.refusals.CheckRefusal.{CheckRefusal}

@@ -1,7 +1,7 @@
 -- When a line of a function is refused, by the kind of refusal: the places at which it is.
 use Rattle.std.specs.Prelude.{ℕ, nat_lt, ◌&&◌, ◌==◌, Bool, false, if◌then◌else◌, List, [], ◌∷◌, ◌++◌, Option, Some, is_some}
 use Rattle.std.specs.List.{flat_map, list_any}
-use Rattle.pg_read_lex.specs.declared.token.Span.{Span}
+use Rattle.pg_read_ast.specs.pg_read_lex.declared.token.Span.{Span}
 use Rattle.pg_read_ast.specs.declared.names.Name.{Name}
 use Rattle.pg_read_ast.specs.Syntax.{Ty, Val, Case, Op, Call, Switch, RetVoid, GetElementPtr, Line}
 use Rattle.pg_read_ast.specs.Numbers.{gives}

@@ -4,7 +4,7 @@ use Rattle.std.specs.List.{find, enumerate_from, list_any, flat_map, filter_map,
 use Rattle.std.specs.Option.{option_map}
 use Rattle.std.specs.Str.{bytes_eq}
 use Rattle.pg_num.specs.declared.width.Width.TheVariants.{W1}
-use Rattle.pg_read_lex.specs.declared.token.Span.{Span}
+use Rattle.pg_read_ast.specs.pg_read_lex.declared.token.Span.{Span}
 use Rattle.pg_read_ast.specs.declared.names.Name.{Name}
 use Rattle.pg_read_ast.specs.Syntax.{Op, Binary, Icmp, Cast, Select, Phi, Br, CondBr, Switch, Call, RetVoid, Ret}
 use Rattle.pg_read_ast.specs.Syntax.{Unreachable, Alloca, Load, Store, GetElementPtr, Line, Block, Param, NamedType}

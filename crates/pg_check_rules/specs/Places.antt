@@ -1,5 +1,5 @@
 -- The first tokens of types and values.
-use Rattle.pg_read_lex.specs.declared.token.Span.{Span}
+use Rattle.pg_read_ast.specs.pg_read_lex.declared.token.Span.{Span}
 use Rattle.pg_read_ast.specs.Syntax.{Ty, I1, I8, I16, I32, I64, Ptr, Void, Array, Struct, Named, Val, Int, True, False}
 use Rattle.pg_read_ast.specs.Syntax.{Null, Undef, Poison, ZeroInitializer, Local, Global, GepVal, IntToPtrVal}
 

@@ -1,7 +1,7 @@
 -- When a type that is written is refused.
 use Rattle.std.specs.Prelude.{ℕ, nat_lt, Bool, false, if◌then◌else◌, List, [], ◌∷◌, ◌++◌, Option, Some, None, is_some}
 use Rattle.std.specs.List.{flat_map, list_any}
-use Rattle.pg_read_lex.specs.declared.token.Span.{Span}
+use Rattle.pg_read_ast.specs.pg_read_lex.declared.token.Span.{Span}
 use Rattle.pg_num.specs.declared.limits.TheConstants.{SIZE_LIMIT}
 use Rattle.pg_read_ast.specs.Syntax.{Ty, Array, Struct, Named, NamedType}
 use Rattle.pg_read_ast.specs.Numbers.{type_named}

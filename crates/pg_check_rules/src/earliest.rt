@@ -4,7 +4,7 @@ ghost use Rattle.std.specs.Prelude.{◌≡◌};
 ghost use Rattle.pg_check_rules.specs.Conditions.{at_if};
 ghost use Rattle.pg_check_rules.specs.Earliest.{earlier, earliest};
 
-use pg_read_lex::Span;
+use pg_read_ast::pg_read_lex::Span;
 
 /// The place that begins earlier, and the first of two that begin together.
 pub fn earlier(one: Option<Span>, other: Option<Span>) -> Option<Span>

@@ -4,7 +4,7 @@ ghost use Rattle.std.specs.Prelude.{◌≡◌};
 ghost use Rattle.pg_check_rules.specs.declared.fault.CheckFault.TheVariants.{OutOfMemory};
 ghost use Rattle.pg_check_rules.specs.Conditions.{rank};
 
-use pg_read_lex::Span;
+use pg_read_ast::pg_read_lex::Span;
 use std::alloc::AllocError;
 use thiserror::Error;
 

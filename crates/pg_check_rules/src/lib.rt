@@ -21,7 +21,7 @@ mod within;
 
 pub use earliest::{earlier, place_if};
 pub use fault::{CheckFault, CheckKind};
-pub use fields::{element_in, field_chosen, fields_of, nth_field};
+pub use fields::{LastField, chosen_of, element_in, fields_of, nth_field};
 pub use granules::granules_for;
 pub use integers::{constant_number, index_numbers, literal_at, number_at};
 pub use known::known_named;

@@ -7,8 +7,8 @@ ghost use Rattle.pg_read_ast.specs.Views.{param_of};
 ghost use Rattle.pg_check_rules.specs.Starts.{names_behind};
 ghost use Rattle.pg_check_rules.specs.Numbering.{param_name};
 
+use pg_read_ast::pg_read_lex::Span;
 use pg_read_ast::{Bytes, Name, NextNumber, ParamNode};
-use pg_read_lex::Span;
 use std::alloc::{AllocError, Global};
 
 /// The name of a thing that is called by the next number.

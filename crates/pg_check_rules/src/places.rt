@@ -4,8 +4,8 @@ ghost use Rattle.std.specs.Prelude.{◌≡◌};
 ghost use Rattle.pg_read_ast.specs.Views.{ty_of, val_of};
 ghost use Rattle.pg_check_rules.specs.Places.{type_span, val_span};
 
+use pg_read_ast::pg_read_lex::Span;
 use pg_read_ast::{TypeNode, ValNode};
-use pg_read_lex::Span;
 
 /// The first token of a type.
 pub fn type_span(ty: &TypeNode) -> Span

@@ -1,12 +1,12 @@
 //! The first refusal of a part of a text: the earliest, and at one place the first in the order of the kinds.
 
 ghost use Rattle.std.specs.Prelude.{◌≡◌, List, true, false};
-ghost use Rattle.pg_read_lex.specs.declared.token.Span.{Span};
+ghost use Rattle.pg_read_ast.specs.pg_read_lex.declared.token.Span.{Span};
 ghost use Rattle.pg_check_rules.specs.Conditions.{RefusedPlaces, NoLater};
 ghost use Rattle.pg_check_rules.specs.Earliest.{earliest, only, joined, names_and_types, IsFirstIn};
 
 use crate::fault::CheckKind;
-use pg_read_lex::Span;
+use pg_read_ast::pg_read_lex::Span;
 
 /// A place at which a program is refused, and why.
 #[derive(Clone, Copy, Debug, PartialEq, Eq)]

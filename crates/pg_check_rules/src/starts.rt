@@ -13,7 +13,7 @@ use crate::earliest::{earlier, place_if};
 use crate::own_names::references;
 use indexmap::IndexMap;
 use pg_read_ast::Name;
-use pg_read_lex::Span;
+use pg_read_ast::pg_read_lex::Span;
 use std::alloc::{AllocError, Global};
 
 /// The earlier of a start that is known, if there is one, and another.

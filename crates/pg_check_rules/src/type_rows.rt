@@ -11,8 +11,8 @@ ghost use Rattle.pg_check_rules.specs.TypeConditions.{unknown_type, wrong_count,
 use crate::earliest::earlier;
 use crate::places::type_span;
 use pg_check_types::{TypeKind, TypeNumbers, element_count};
+use pg_read_ast::pg_read_lex::Span;
 use pg_read_ast::{Literal, TypeNode};
-use pg_read_lex::Span;
 use std::alloc::AllocError;
 
 /// A name without an item.

@@ -1,7 +1,7 @@
 -- Alignments, and where the fields of structures end.
 use Rattle.std.proofs.Common.{◌≡◌, ℕ, zero, suc, ◌+◌, ◌≤◌, max, List, [], ◌∷◌, ◌++◌, refl, ap, ◌∙◌, arith}
-use Rattle.pg_num.specs.declared.width.Width.{Width}
-use Rattle.pg_num.specs.declared.width.Width.TheVariants.{W1, W8, W16, W32, W64}
+use Rattle.pg_read_ast.specs.pg_num.declared.width.Width.{Width}
+use Rattle.pg_read_ast.specs.pg_num.declared.width.Width.TheVariants.{W1, W8, W16, W32, W64}
 use Rattle.pg_check_types.specs.Resolved.{ResolvedType, IntegerType, PointerType, VoidType, ArrayType, NoFields, MoreFields}
 use Rattle.pg_check_types.specs.Layout.{bytes_of, round_up, alignment_of, size_of, fields_end, field_list}
 

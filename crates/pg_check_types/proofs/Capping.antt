@@ -1,39 +1,40 @@
 -- Sizes that are kept up to the limit.
-use Rattle.std.proofs.Common.{◌≡◌, ℕ, zero, suc, ◌+◌, ◌*◌, ◌<◌, ◌≤◌, ◌⊎◌, inl, inr, min, max, refl, sym, ap, subst, ◌∙◌, arith}
+use Rattle.std.proofs.Common.{◌≡◌, ℕ, zero, suc, ◌+◌, ◌*◌, ◌<◌, ◌≤◌, ◌⊎◌, inl, inr, min, max, length, refl, sym, ap, subst, ◌∙◌, arith}
 use Rattle.std.proofs.lemmas.Bool.{cases_lt}
 use Rattle.std.proofs.Math.Nat.{zero-mul, suc-mul, min-eq_left, min-eq_right}
-use Rattle.pg_num.specs.declared.width.Width.{Width}
-use Rattle.pg_num.specs.declared.width.Width.TheVariants.{W1, W8, W16, W32, W64}
+use Rattle.pg_read_ast.specs.pg_num.declared.width.Width.{Width}
+use Rattle.pg_read_ast.specs.pg_num.declared.width.Width.TheVariants.{W1, W8, W16, W32, W64}
 use Rattle.pg_check_types.specs.declared.cap.TheConstants.{LAYOUT_CAP}
 use Rattle.pg_check_types.specs.declared.layout.Layout.{Layout}
 use Rattle.pg_check_types.specs.Resolved.{ResolvedType, IntegerType, PointerType, VoidType, ArrayType, NoFields, MoreFields}
-use Rattle.pg_check_types.specs.Layout.{bytes_of, round_up, size_of, fields_end, alignment_of}
+use Rattle.pg_check_types.specs.Layout.{bytes_of, round_up, size_of, fields_end, alignment_of, field_list}
 use Rattle.pg_check_types.specs.Capped.{capped, IsLayout}
+use Rattle.pg_check_types.proofs.Fronts.{field_count}
 
 -- a type that isn't an aggregate
 scalar_layout : (l : Layout) (t : ResolvedType) (n : ℕ) → l.size ≡ n → l.fields_end ≡ 0 → l.alignment ≡ n → n ≡ capped (size_of t) → 0 ≡ capped (fields_end t)
-    → n ≡ alignment_of t → IsLayout l t
-scalar_layout l t n s e a x y z = record { size = s ∙ x; fields_end = e ∙ y; alignment = a ∙ z }
+    → n ≡ alignment_of t → l.fields ≡ length (field_list t) → IsLayout l t
+scalar_layout l t n s e a x y z f = record { size = s ∙ x; fields_end = e ∙ y; alignment = a ∙ z; fields = f }
 
-pub integer_layout : (l : Layout) (w : Width) → l.size ≡ bytes_of w → l.fields_end ≡ 0 → l.alignment ≡ bytes_of w → IsLayout l (IntegerType w)
+pub integer_layout : (l : Layout) (w : Width) → l.size ≡ bytes_of w → l.fields_end ≡ 0 → l.alignment ≡ bytes_of w → l.fields ≡ 0 → IsLayout l (IntegerType w)
 unfolding size_of fields_end alignment_of
-integer_layout l W1 s e a = scalar_layout l (IntegerType W1) 1 s e a refl refl refl
-integer_layout l W8 s e a = scalar_layout l (IntegerType W8) 1 s e a refl refl refl
-integer_layout l W16 s e a = scalar_layout l (IntegerType W16) 2 s e a refl refl refl
-integer_layout l W32 s e a = scalar_layout l (IntegerType W32) 4 s e a refl refl refl
-integer_layout l W64 s e a = scalar_layout l (IntegerType W64) 8 s e a refl refl refl
+integer_layout l W1 s e a f = scalar_layout l (IntegerType W1) 1 s e a refl refl refl f
+integer_layout l W8 s e a f = scalar_layout l (IntegerType W8) 1 s e a refl refl refl f
+integer_layout l W16 s e a f = scalar_layout l (IntegerType W16) 2 s e a refl refl refl f
+integer_layout l W32 s e a f = scalar_layout l (IntegerType W32) 4 s e a refl refl refl f
+integer_layout l W64 s e a f = scalar_layout l (IntegerType W64) 8 s e a refl refl refl f
 
-pub pointer_layout : (l : Layout) → l.size ≡ 8 → l.fields_end ≡ 0 → l.alignment ≡ 8 → IsLayout l PointerType
+pub pointer_layout : (l : Layout) → l.size ≡ 8 → l.fields_end ≡ 0 → l.alignment ≡ 8 → l.fields ≡ 0 → IsLayout l PointerType
 unfolding size_of fields_end alignment_of
-pointer_layout l s e a = record { size = s; fields_end = e; alignment = a }
+pointer_layout l s e a f = record { size = s; fields_end = e; alignment = a; fields = f }
 
-pub void_layout : (l : Layout) → l.size ≡ 0 → l.fields_end ≡ 0 → l.alignment ≡ 1 → IsLayout l VoidType
+pub void_layout : (l : Layout) → l.size ≡ 0 → l.fields_end ≡ 0 → l.alignment ≡ 1 → l.fields ≡ 0 → IsLayout l VoidType
 unfolding size_of fields_end alignment_of
-void_layout l s e a = record { size = s; fields_end = e; alignment = a }
+void_layout l s e a f = record { size = s; fields_end = e; alignment = a; fields = f }
 
-pub no_fields_layout : (l : Layout) → l.size ≡ 0 → l.fields_end ≡ 0 → l.alignment ≡ 1 → IsLayout l NoFields
+pub no_fields_layout : (l : Layout) → l.size ≡ 0 → l.fields_end ≡ 0 → l.alignment ≡ 1 → l.fields ≡ 0 → IsLayout l NoFields
 unfolding size_of fields_end alignment_of
-no_fields_layout l s e a = record { size = s; fields_end = e; alignment = a }
+no_fields_layout l s e a f = record { size = s; fields_end = e; alignment = a; fields = f }
 
 -- ---- arrays
 
@@ -53,10 +54,10 @@ min_times n s c = by_order n (cases_lt s c)
     by_order n (inl l) = let m : s ≤ c = omega (arith, l) in ap (λ x. min (n * x) c) (min-eq_left m)
     by_order n (inr l) = large n l
 
-pub array_layout : (n : ℕ) (l r : Layout) → r.size ≡ capped (n * l.size) → r.fields_end ≡ 0 → r.alignment ≡ l.alignment → (t : ResolvedType) → IsLayout l t
+pub array_layout : (n : ℕ) (l r : Layout) → r.size ≡ capped (n * l.size) → r.fields_end ≡ 0 → r.alignment ≡ l.alignment → r.fields ≡ 0 → (t : ResolvedType) → IsLayout l t
     → IsLayout r (ArrayType n t)
 unfolding size_of fields_end alignment_of
-array_layout n l r s e a t h = record { size = s ∙ ap (λ s. capped (n * s)) h.size ∙ min_times n (size_of t) LAYOUT_CAP; fields_end = e; alignment = a ∙ h.alignment }
+array_layout n l r s e a f t h = record { size = s ∙ ap (λ s. capped (n * s)) h.size ∙ min_times n (size_of t) LAYOUT_CAP; fields_end = e; alignment = a ∙ h.alignment; fields = f }
 
 -- ---- structures
 
@@ -132,15 +133,16 @@ rounded : (x a : ℕ) → IsAlignment a → capped (round_up (capped x) a) ≡ c
 rounded x a h = min_rounded x a LAYOUT_CAP (limit_rounds a h) (rounds_up x a h)
 
 pub field_layout : (f l r : Layout) → r.fields_end ≡ capped (round_up f.fields_end l.alignment + l.size) → r.alignment ≡ max f.alignment l.alignment
-    → r.size ≡ capped (round_up r.fields_end r.alignment)
+    → r.size ≡ capped (round_up r.fields_end r.alignment) → r.fields ≡ f.fields + 1
     → (s t : ResolvedType) → IsLayout f s → IsLayout l t → IsLayout r (MoreFields s t)
 unfolding size_of fields_end alignment_of
-field_layout f l r e a z s t g h = record {
+field_layout f l r e a z n s t g h = record {
   size = z ∙ ap (λ n. capped (round_up n r.alignment)) ended ∙ ap (λ n. capped (round_up (capped (round_up (fields_end s) (alignment_of t) + size_of t)) n)) aligned
       ∙ rounded (round_up (fields_end s) (alignment_of t) + size_of t) (max (alignment_of s) (alignment_of t))
       (max_alignment (alignment_of s) (alignment_of t) (type_alignment s) (type_alignment t));
   fields_end = ended;
   alignment = aligned;
+  fields = n ∙ ap (λ k. k + 1) g.fields ∙ sym (field_count s t);
 }
   where
     aligned : r.alignment ≡ max (alignment_of s) (alignment_of t)

@@ -1,6 +1,7 @@
 mod Capping
 mod Shapes
 mod TableTypes
+pub mod Fronts
 pub mod SameTypes
 mod NameIndexes
 pub mod Resolutions

@@ -1,6 +1,6 @@
 -- A structure type as a tree.
 use Rattle.std.proofs.Common.{◌≡◌, map, Vec, Global}
-use Rattle.pg_read_lex.specs.declared.token.Span.{Span}
+use Rattle.pg_read_ast.specs.pg_read_lex.declared.token.Span.{Span}
 use Rattle.pg_read_ast.specs.declared.types.TypeNode.{TypeNode, roll-TypeNode}
 use Rattle.pg_read_ast.specs.declared.types.TypeNode.TheViews.{Struct}
 use Rattle.pg_read_ast.specs.declared.types.TypeNode.TheOpen as opened

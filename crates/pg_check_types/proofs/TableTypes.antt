@@ -1,5 +1,5 @@
 -- The types of a table by their numbers.
-use Rattle.std.proofs.Common.{◌≡◌, ℕ, zero, suc, ◌+◌, ◌<◌, ◌≤◌, Bool, true, false, ◌&&◌, nat_lt, List, [], ◌∷◌, ◌++◌, length, take, drop, Option, Some}
+use Rattle.std.proofs.Common.{◌≡◌, ℕ, zero, suc, ◌+◌, ◌<◌, ◌≤◌, Bool, true, false, ◌&&◌, nat_lt, List, [], ◌∷◌, ◌++◌, length, take, drop, Option, Some, None, IfSome}
 use Rattle.std.proofs.Common.{slice_get, unwrap_or, Result, Ok, Err, IfOk, ◌⊎◌, inl, inr, refl, sym, ap, subst, ◌∙◌, append_assoc, length-append, length-take, take-append-drop}
 use Rattle.std.proofs.Common.{arith}
 use Rattle.std.specs.Option.{option_map}
@@ -12,8 +12,10 @@ use Rattle.pg_check_types.specs.declared.shape.Shape.{Shape}
 use Rattle.pg_check_types.specs.declared.shape.Shape.TheVariants.{I1, I8, I16, I32, I64, Pointer, Void, Array, NoFields, MoreFields}
 use Rattle.pg_check_types.specs.Resolved as resolved
 use Rattle.pg_check_types.specs.Resolved.{ResolvedType}
+use Rattle.pg_check_types.specs.Layout.{field_list}
 use Rattle.pg_check_types.specs.Capped.{IsLayout}
-use Rattle.pg_check_types.specs.Table.{type_at, type_of_shape, refers_below, types_from, types_of, IsTable, IsAbsent, IsAdded, AreDistinct, Grows}
+use Rattle.pg_check_types.specs.Table.{type_at, type_of_shape, refers_below, types_from, types_of, IsTable, IsAbsent, IsAdded, IsBeginning, IsShorter, AreDistinct, Grows}
+use Rattle.pg_check_types.proofs.Fronts.{field_count}
 
 -- ---- lists
 
@@ -170,10 +172,11 @@ distinct_more ks s d a i j u e f = by (entry_cases ks s u i e) (entry_cases ks s
     by (inr p) (inr q) = p.0 ∙ sym q.0
 
 last_table : (es : List (Shape × Layout)) (s : Shape) (l : Layout) → IsTable es → IsAbsent (keys_of es) s → refers_below (length es) s ≡ true
-    → IsLayout l (type_of_shape (types_of es) s) → IsTable (es ++ (s, l) ∷ [])
-last_table es s l t a r h = record {
+    → IsLayout l (type_of_shape (types_of es) s) → IfSome l.shorter (IsShorter (types_of es) (type_of_shape (types_of es) s) (length es)) → IsTable (es ++ (s, l) ∷ [])
+last_table es s l t a r h b = record {
   refers = λ i u m e. refers_at i u m (entry_cases es (s, l) (u, m) i e);
   layouts = λ i u m e. layout_at i u m (entry_cases es (s, l) (u, m) i e);
+  shorter = λ i u m e. shorter_at i u m (entry_cases es (s, l) (u, m) i e);
   distinct = subst (λ ks. AreDistinct ks) (sym (keys_append es ((s, l) ∷ []))) (distinct_more (keys_of es) s t.distinct a);
 }
   where
@@ -193,21 +196,43 @@ last_table es s l t a r h = record {
     layout_at i u m (inr e) =
         subst (λ (x : Shape × Layout). IsLayout x.1 (type_of_shape (types_of (es ++ (s, l) ∷ [])) x.0)) e.1 (subst (λ y. IsLayout l y) (sym (kept s r)) h)
 
+    -- a way back leads to the same type as before
+    back : (o : Option ℕ) (i : ℕ) (u : ResolvedType) → i ≤ length es → IfSome o (IsShorter (types_of es) u i) → IfSome o (IsShorter (types_of (es ++ (s, l) ∷ [])) u i)
+    back None i u k p = tt
+    back (Some n) i u k p =
+        let c = types_count es in
+        record {
+          below = p.below;
+          beginning = subst (λ x. IsBeginning x u) (sym (ap (λ ts. type_at ts n) (one_more es s l) ∙ type_kept (types_of es) (type_of_shape (types_of es) s ∷ []) n (omega (arith, c, k, p.below)))) p.beginning;
+        }
+
+    shorter_at : (i : ℕ) (u : Shape) (m : Layout) → (slice_get es i ≡ Some (u, m)) ⊎ ((i ≡ length es) × (◌≡◌ {A = Shape × Layout} (s, l) (u, m)))
+        → IfSome m.shorter (IsShorter (types_of (es ++ (s, l) ∷ [])) (type_of_shape (types_of (es ++ (s, l) ∷ [])) u) i)
+    shorter_at i u m (inl e) =
+        let w = slice_get_within es i (u, m) e in
+        let k = refers_more i (length es) u (omega (arith, w)) (t.refers i u m e) in
+        subst (λ y. IfSome m.shorter (IsShorter (types_of (es ++ (s, l) ∷ [])) y i)) (sym (kept u k)) (back m.shorter i (type_of_shape (types_of es) u) (omega (arith, w)) (t.shorter i u m e))
+    shorter_at i u m (inr e) =
+        subst (λ n. IfSome m.shorter (IsShorter (types_of (es ++ (s, l) ∷ [])) (type_of_shape (types_of (es ++ (s, l) ∷ [])) u) n)) (sym e.0)
+        (subst (λ (x : Shape × Layout). IfSome x.1.shorter (IsShorter (types_of (es ++ (s, l) ∷ [])) (type_of_shape (types_of (es ++ (s, l) ∷ [])) x.0) (length es))) e.1
+        (subst (λ y. IfSome l.shorter (IsShorter (types_of (es ++ (s, l) ∷ [])) y (length es))) (sym (kept s r)) (back l.shorter (length es) (type_of_shape (types_of es) s) (omega arith) b)))
+
 pub added_table : (es fs : List (Shape × Layout)) (s : Shape) (l : Layout) → IsTable es → refers_below (length es) s ≡ true → IsLayout l (type_of_shape (types_of es) s)
-    → IsAdded es fs s l → IsTable fs
-added_table es fs s l t r h (inl e) = subst (λ x. IsTable x) (sym e) t
-added_table es fs s l t r h (inr e) = subst (λ x. IsTable x) (sym e.1) (last_table es s l t e.0 r h)
+    → IfSome l.shorter (IsShorter (types_of es) (type_of_shape (types_of es) s) (length es)) → IsAdded es fs s l → IsTable fs
+added_table es fs s l t r h b (inl e) = subst (λ x. IsTable x) (sym e) t
+added_table es fs s l t r h b (inr e) = subst (λ x. IsTable x) (sym e.1) (last_table es s l t e.0 r h b)
 
 -- the type at a key's number
 pub table_found : (es : List (Shape × Layout)) (i : ℕ) (s : Shape) → IsTable es → slice_get (keys_of es) i ≡ Some s → slice_get (types_of es) i ≡ Some (type_of_shape (types_of es) s)
 table_found es i s t e = let k = key_entry es i s e in type_found [] (keys_of es) i i s (omega arith) e (t.refers i s k.0 k.1)
 
 pub added_found : (es fs : List (Shape × Layout)) (s : Shape) (l : Layout) (i : ℕ) → IsTable es → refers_below (length es) s ≡ true → IsLayout l (type_of_shape (types_of es) s)
-    → IsAdded es fs s l → slice_get (keys_of fs) i ≡ Some s → slice_get (types_of fs) i ≡ Some (type_of_shape (types_of es) s)
-added_found es fs s l i t r h a e =
+    → IfSome l.shorter (IsShorter (types_of es) (type_of_shape (types_of es) s) (length es)) → IsAdded es fs s l
+    → slice_get (keys_of fs) i ≡ Some s → slice_get (types_of fs) i ≡ Some (type_of_shape (types_of es) s)
+added_found es fs s l i t r h w a e =
     let g = added_grows es fs s l a in
     let b = subst (λ n. refers_below n s ≡ true) (sym (types_count es)) r in
-    table_found fs i s (added_table es fs s l t r h a) e ∙ ap (λ ts. Some (type_of_shape ts s)) g.1 ∙ ap (λ y. Some y) (shape_kept (types_of es) g.0 s b)
+    table_found fs i s (added_table es fs s l t r h w a) e ∙ ap (λ ts. Some (type_of_shape ts s)) g.1 ∙ ap (λ y. Some y) (shape_kept (types_of es) g.0 s b)
 
 pub if_ok : {X E : Type 0} {P Q : X → Type 0} (o : Result X E) → ((x : X) → P x → Q x) → IfOk o P → IfOk o Q
 if_ok (Ok x) f h = f x h
@@ -222,6 +247,42 @@ entry_type es n s l t e = sym (ap (λ o. unwrap_or o resolved.VoidType) (table_f
 
 pub entry_layout : (es : List (Shape × Layout)) (n : ℕ) (s : Shape) (l : Layout) → IsTable es → slice_get es n ≡ Some (s, l) → IsLayout l (type_at (types_of es) n)
 entry_layout es n s l t e = subst (λ y. IsLayout l y) (entry_type es n s l t e) (t.layouts n s l e)
+
+pub entry_shorter : (es : List (Shape × Layout)) (n : ℕ) (s : Shape) (l : Layout) → IsTable es → slice_get es n ≡ Some (s, l)
+    → IfSome l.shorter (IsShorter (types_of es) (type_at (types_of es) n) n)
+entry_shorter es n s l t e = subst (λ y. IfSome l.shorter (IsShorter (types_of es) y n)) (entry_type es n s l t e) (t.shorter n s l e)
+
+-- a structure's fields stand before it
+entry_there : {X : Type 0} (xs : List X) (n : ℕ) → n < length xs → (x : X) × (slice_get xs n ≡ Some x)
+entry_there [] n l = absurd (omega (arith, l))
+entry_there (x ∷ xs) zero l = (x, refl)
+entry_there (x ∷ xs) (suc n) l = entry_there xs n (omega (arith, l))
+
+fields_within : (es : List (Shape × Layout)) → IsTable es → (k n : ℕ) → n < k → n < length es → length (field_list (type_at (types_of es) n)) ≤ n
+fields_within es t zero n l w = absurd (omega (arith, l))
+fields_within es t (suc k) n l w =
+    let p = entry_there es n w in
+    subst (λ u. length (field_list u) ≤ n) (entry_type es n p.0.0 p.0.1 t p.1) (of_shape p.0.0 (t.refers n p.0.0 p.0.1 p.1) (λ a i j. fields_within es t k a i j))
+  where
+    of_shape : (s : Shape) → refers_below n s ≡ true → ((a : ℕ) → a < k → a < length es → length (field_list (type_at (types_of es) a)) ≤ a)
+        → length (field_list (type_of_shape (types_of es) s)) ≤ n
+    of_shape I1 r below = omega arith
+    of_shape I8 r below = omega arith
+    of_shape I16 r below = omega arith
+    of_shape I32 r below = omega arith
+    of_shape I64 r below = omega arith
+    of_shape Pointer r below = omega arith
+    of_shape Void r below = omega arith
+    of_shape (Array c u) r below = omega arith
+    of_shape NoFields r below = omega arith
+    of_shape (MoreFields a b) r below =
+        let q = both (nat_lt a n) (nat_lt b n) r in
+        let i : a < n = ltb-true a n q.0 in
+        let h = below a (omega (arith, i, l)) (omega (arith, i, w)) in
+        omega (arith, field_count (type_at (types_of es) a) (type_at (types_of es) b), h, i)
+
+pub fields_before : (es : List (Shape × Layout)) (n : ℕ) → IsTable es → n < length (types_of es) → length (field_list (type_at (types_of es) n)) ≤ n
+fields_before es n t l = let c = types_count es in fields_within es t (n + 1) n (omega arith) (omega (arith, l, c))
 
 -- ---- a table over another
 
@@ -273,4 +334,4 @@ taken_more es fs i p s l t e (inl a) k =
 
 -- a table without types
 pub no_types : (es : List (Shape × Layout)) → es ≡ [] → IsTable es
-no_types es e = subst (λ x. IsTable x) (sym e) (record { refers = λ i s l f. cc; layouts = λ i s l f. cc; distinct = λ i j s f g. cc })
+no_types es e = subst (λ x. IsTable x) (sym e) (record { refers = λ i s l f. cc; layouts = λ i s l f. cc; shorter = λ i s l f. cc; distinct = λ i j s f g. cc })

@@ -1,6 +1,6 @@
 -- What checks ask of a type.
 use Rattle.std.specs.Prelude.{nat_lt, Bool, true, false, not, Option, Some, None}
-use Rattle.pg_num.specs.declared.limits.TheConstants.{SIZE_LIMIT}
+use Rattle.pg_read_ast.specs.pg_num.declared.limits.TheConstants.{SIZE_LIMIT}
 use Rattle.pg_check_types.specs.declared.kind.TypeKind.{TypeKind}
 use Rattle.pg_check_types.specs.declared.kind.TypeKind.TheVariants.{Integer, Pointer, Void, Aggregate}
 use Rattle.pg_check_types.specs.Resolved.{ResolvedType, IntegerType, PointerType, VoidType, ArrayType, NoFields, MoreFields, same_type}

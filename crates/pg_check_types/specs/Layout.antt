@@ -1,6 +1,6 @@
 -- Sizes, alignments and offsets of types, in bytes.
 use Rattle.std.specs.Prelude.{ℕ, ◌+◌, ◌-◌, ◌*◌, ◌/◌, max, List, [], ◌∷◌, ◌++◌, Option, Some, None}
-pub use Rattle.pg_num.specs.Numbers.{bytes_of}
+pub use Rattle.pg_read_ast.specs.pg_num.Numbers.{bytes_of}
 use Rattle.pg_check_types.specs.Resolved.{ResolvedType, IntegerType, PointerType, VoidType, ArrayType, NoFields, MoreFields}
 
 -- the next multiple of an alignment

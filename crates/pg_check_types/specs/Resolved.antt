@@ -1,10 +1,10 @@
 -- Types with their names read through (LLVM Language Reference, "Type System").
 use Rattle.std.specs.Prelude.{ℕ, zero, suc, ◌-◌, ◌^◌, ◌==◌, ◌&&◌, Bool, true, false, List, length, ℤ, pos, Option, Some, None}
 use Rattle.std.specs.Option.{option_and_then}
-use Rattle.pg_num.specs.Decimal.{decimal_between}
-use Rattle.pg_num.specs.Numbers.{width_bits}
-use Rattle.pg_num.specs.declared.width.Width.{Width}
-use Rattle.pg_num.specs.declared.width.Width.TheVariants.{W1, W8, W16, W32, W64}
+use Rattle.pg_read_ast.specs.pg_num.Decimal.{decimal_between}
+use Rattle.pg_read_ast.specs.pg_num.Numbers.{width_bits}
+use Rattle.pg_read_ast.specs.pg_num.declared.width.Width.{Width}
+use Rattle.pg_read_ast.specs.pg_num.declared.width.Width.TheVariants.{W1, W8, W16, W32, W64}
 use Rattle.pg_read_ast.specs.Syntax.{Ty, Tys, I1, I8, I16, I32, I64, Ptr, Void, Array, Struct, Named, NoTys, MoreTys, NamedType}
 use Rattle.pg_read_ast.specs.Numbers.{type_named}
 

@@ -1,7 +1,7 @@
 -- A table of types in which each is known by its number.
-use Rattle.std.specs.Prelude.{◌≡◌, ◌≢◌, ◌⊎◌, ℕ, nat_lt, ◌&&◌, Bool, true, List, [], ◌∷◌, ◌++◌, slice_get, Some, unwrap_or}
+use Rattle.std.specs.Prelude.{◌≡◌, ◌≢◌, ◌⊎◌, ℕ, zero, suc, ◌<◌, nat_lt, ◌&&◌, Bool, true, List, [], ◌∷◌, ◌++◌, slice_get, Some, IfSome, unwrap_or}
 use Rattle.std.specs.Map.{keys_of}
-use Rattle.pg_num.specs.declared.width.Width.TheVariants.{W1, W8, W16, W32, W64}
+use Rattle.pg_read_ast.specs.pg_num.declared.width.Width.TheVariants.{W1, W8, W16, W32, W64}
 use Rattle.pg_check_types.specs.declared.layout.Layout.{Layout}
 use Rattle.pg_check_types.specs.declared.shape.Shape.{Shape}
 use Rattle.pg_check_types.specs.declared.shape.Shape.TheVariants.{I1, I8, I16, I32, I64, Pointer, Void, Array, NoFields, MoreFields}
@@ -44,10 +44,26 @@ types_of entries = types_from [] (keys_of entries)
 abbrev pub AreDistinct : List Shape → Type 0
 AreDistinct shapes = (i j : ℕ) (s : Shape) → slice_get shapes i ≡ Some s → slice_get shapes j ≡ Some s → i ≡ j
 
--- each shape's parts stand before it, each layout is its type's, and each shape stands once
+-- a structure without so many of its last fields
+abbrev pub without_last : ℕ → ResolvedType → ResolvedType
+without_last zero t = t
+without_last (suc n) (resolved.MoreFields s t) = without_last n s
+without_last (suc n) t = t
+
+-- a structure of some of the first fields of another, or of all
+abbrev pub IsBeginning : ResolvedType → ResolvedType → Type 0
+IsBeginning s t = (n : ℕ) × (s ≡ without_last n t)
+
+-- the type of a number below an end is a structure of some of the first fields of this one
+pub record IsShorter (types : List ResolvedType) (t : ResolvedType) (end n : ℕ) : Type 0 where
+  pub below : n < end
+  pub beginning : IsBeginning (type_at types n) t
+
+-- each shape's parts stand before it, each layout is its type's and leads back, and each shape stands once
 pub record IsTable (entries : List (Shape × Layout)) : Type 0 where
   pub refers : (i : ℕ) (s : Shape) (l : Layout) → slice_get entries i ≡ Some (s, l) → refers_below i s ≡ true
   pub layouts : (i : ℕ) (s : Shape) (l : Layout) → slice_get entries i ≡ Some (s, l) → IsLayout l (type_of_shape (types_of entries) s)
+  pub shorter : (i : ℕ) (s : Shape) (l : Layout) → slice_get entries i ≡ Some (s, l) → IfSome l.shorter (IsShorter (types_of entries) (type_of_shape (types_of entries) s) i)
   pub distinct : AreDistinct (keys_of entries)
 
 -- a shape is none of these

@@ -13,8 +13,8 @@ use crate::names::{index_names, place_of_name};
 use crate::resolving::type_number;
 use crate::table::TypeTable;
 use indexmap::IndexMap;
-use pg_num::either;
 use pg_read_ast::TypeItem;
+use pg_read_ast::pg_num::either;
 use std::alloc::{AllocError, Global};
 
 /// The names of type items.

@@ -6,7 +6,7 @@ ghost use Rattle.pg_check_types.specs.Table.{type_of_shape};
 ghost use Rattle.pg_check_types.specs.Kinds.{kind_of};
 
 use crate::shape::Shape;
-use pg_num::Width;
+use pg_read_ast::pg_num::Width;
 
 /// What kind a type is of.
 #[derive(Clone, Copy, Debug, PartialEq, Eq)]

@@ -1,9 +1,9 @@
 //! Types of a program text that are known by their numbers.
 
-ghost use Rattle.std.specs.Prelude.{◌≡◌, IfOk, length, ◌<◌, true};
+ghost use Rattle.std.specs.Prelude.{◌≡◌, IfOk, IfSome, length, ◌<◌, true};
 ghost use Rattle.pg_read_ast.specs.Views.{ty_of};
 ghost use Rattle.pg_check_types.specs.Resolved.{resolved};
-ghost use Rattle.pg_check_types.specs.Table.{Grows, type_at, type_of_shape, refers_below};
+ghost use Rattle.pg_check_types.specs.Table.{Grows, type_at, type_of_shape, refers_below, IsShorter};
 ghost use Rattle.pg_check_types.specs.Known.{denoted, IsWithin};
 ghost use Rattle.pg_check_types.specs.Kinds.{kind_of, agree};
 ghost use Rattle.pg_check_types.specs.Capped.{IsLayout};
@@ -81,7 +81,8 @@ impl<'b> KnownTypes<'b> {
     /// How the type of a number lies in memory.
     pub fn layout_of_number(&self, number: usize) -> Layout
         requires { number < length (table_of self.now) }
-        ensures { IsLayout result (type_at (table_of self.now) number) }
+        ensures layout { IsLayout result (type_at (table_of self.now) number) }
+        ensures shorter { IfSome result.shorter (IsShorter (table_of self.now) (type_at (table_of self.now) number) number) }
     {
         self.table.layout(number)
     }

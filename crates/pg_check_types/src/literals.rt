@@ -1,12 +1,12 @@
 //! The numbers that literals write, in the ranges of their types.
 
 ghost use Rattle.std.specs.Prelude.{◌≡◌, ◌-◌, ◌<◌, ◌≤ℤ◌, pos, neg_ℤ, Some, IfSome};
-ghost use Rattle.pg_num.specs.Decimal.{decimal_between, is_between};
-ghost use Rattle.pg_num.specs.Numbers.{modulus, half, residue};
+ghost use Rattle.pg_read_ast.specs.pg_num.Decimal.{decimal_between, is_between};
+ghost use Rattle.pg_read_ast.specs.pg_num.Numbers.{modulus, half, residue};
 ghost use Rattle.pg_check_types.specs.Literals.{literal_in};
 ghost use Rattle.pg_check_types.specs.Resolved.{element_count};
 
-use pg_num::{Width, digits_in_64_bits, from_signed};
+use pg_read_ast::pg_num::{Width, digits_in_64_bits, from_signed};
 
 fn is_between(low: i128, high: i128, integer: i128) -> bool
     ensures { result ≡ is_between low high integer }

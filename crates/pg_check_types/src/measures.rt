@@ -1,6 +1,6 @@
 //! Sizes and alignments of types from those of their parts.
 
-ghost use Rattle.std.specs.Prelude.{◌≡◌, ◌≤◌, ◌<◌, ◌+◌};
+ghost use Rattle.std.specs.Prelude.{◌≡◌, ◌≤◌, ◌<◌, ◌+◌, ◌^◌, Some, None};
 ghost use Rattle.pg_check_types.specs.declared.cap.TheConstants.{LAYOUT_CAP};
 ghost use Rattle.pg_check_types.specs.Resolved.{ResolvedType, ArrayType, NoFields, MoreFields, PointerType, VoidType, IntegerType};
 ghost use Rattle.pg_check_types.specs.Layout.{round_up, bytes_of};
@@ -8,7 +8,7 @@ ghost use Rattle.pg_check_types.specs.Capped.{capped, IsLayout};
 
 use crate::cap::LAYOUT_CAP;
 use crate::layout::Layout;
-use pg_num::Width;
+use pg_read_ast::pg_num::Width;
 
 fn capped(bytes: u128) -> u32
     ensures value { result ≡ capped bytes }
@@ -50,22 +50,28 @@ fn scalar_layout(bytes: u32) -> Layout
     ensures size { result.size ≡ bytes }
     ensures fields_end { result.fields_end ≡ 0 }
     ensures alignment { result.alignment ≡ bytes }
+    ensures fields { result.fields ≡ 0 }
+    ensures shorter { result.shorter ≡ None }
 {
     Layout {
         size: bytes,
         fields_end: 0,
         alignment: bytes,
+        fields: 0,
+        shorter: None,
     }
 }
 
 pub(crate) fn integer_layout(width: Width) -> Layout
-    ensures { IsLayout result (IntegerType width) }
+    ensures layout { IsLayout result (IntegerType width) }
+    ensures shorter { result.shorter ≡ None }
 {
     scalar_layout(bytes_of(width))
 }
 
 pub(crate) fn pointer_layout() -> Layout
-    ensures { IsLayout result PointerType }
+    ensures layout { IsLayout result PointerType }
+    ensures shorter { result.shorter ≡ None }
 {
     scalar_layout(8)
 }
@@ -75,40 +81,51 @@ fn empty_layout() -> Layout
     ensures size { result.size ≡ 0 }
     ensures fields_end { result.fields_end ≡ 0 }
     ensures alignment { result.alignment ≡ 1 }
+    ensures fields { result.fields ≡ 0 }
+    ensures shorter { result.shorter ≡ None }
 {
     Layout {
         size: 0,
         fields_end: 0,
         alignment: 1,
+        fields: 0,
+        shorter: None,
     }
 }
 
 pub(crate) fn void_layout() -> Layout
-    ensures { IsLayout result VoidType }
+    ensures layout { IsLayout result VoidType }
+    ensures shorter { result.shorter ≡ None }
 {
     empty_layout()
 }
 
 /// The layout of a structure without fields.
 pub(crate) fn no_fields_layout() -> Layout
-    ensures { IsLayout result NoFields }
+    ensures layout { IsLayout result NoFields }
+    ensures shorter { result.shorter ≡ None }
 {
     empty_layout()
 }
 
 pub(crate) fn array_layout(count: u64, element: Layout) -> Layout
-    ensures { (t : ResolvedType) → IsLayout element t → IsLayout result (ArrayType count t) }
+    ensures layout { (t : ResolvedType) → IsLayout element t → IsLayout result (ArrayType count t) }
+    ensures shorter { result.shorter ≡ None }
 {
     Layout {
         size: capped(count as u128 * element.size as u128),
         fields_end: 0,
         alignment: element.alignment,
+        fields: 0,
+        shorter: None,
     }
 }
 
-/// The layout of a structure with one more field.
-pub(crate) fn field_layout(front: Layout, field: Layout) -> Layout
-    ensures { (s t : ResolvedType) → IsLayout front s → IsLayout field t → IsLayout result (MoreFields s t) }
+/// The layout of a structure with one more field, from which a way back leads to the structure of a number.
+pub(crate) fn field_layout(front: Layout, field: Layout, shorter: usize) -> Layout
+    requires { front.fields + 1 < 2 ^ 64 }
+    ensures layout { (s t : ResolvedType) → IsLayout front s → IsLayout field t → IsLayout result (MoreFields s t) }
+    ensures shorter { result.shorter ≡ Some shorter }
 {
     let alignment = front.alignment.max(field.alignment);
     let at = round_up(front.fields_end, field.alignment);
@@ -118,5 +135,7 @@ pub(crate) fn field_layout(front: Layout, field: Layout) -> Layout
         size,
         fields_end,
         alignment,
+        fields: front.fields + 1,
+        shorter: Some(shorter),
     }
 }

@@ -12,8 +12,8 @@ use crate::names::place_of_name;
 use crate::shape::Shape;
 use crate::table::TypeTable;
 use indexmap::IndexMap;
-use pg_num::Width;
 use pg_read_ast::TypeNode;
+use pg_read_ast::pg_num::Width;
 use std::alloc::AllocError;
 
 /// The number of the type of an item's name, if the item is known.

@@ -1,12 +1,13 @@
 //! The types that occur in a program, by number.
 
-ghost use Rattle.std.specs.Prelude.{◌≡◌, ◌^◌, Some, slice_get, IfOk, length, ◌<◌, true};
+ghost use Rattle.std.specs.Prelude.{◌≡◌, ◌^◌, Some, slice_get, IfOk, IfSome, length, ◌<◌, ◌≤◌, true};
 ghost use Rattle.indexmap.specs.IndexMap.{keys};
 ghost use Rattle.pg_check_types.specs.Resolved.{same_type, IntegerType, PointerType, VoidType, ArrayType, NoFields, MoreFields};
+ghost use Rattle.pg_check_types.specs.Layout.{field_list};
 ghost use Rattle.pg_check_types.specs.Capped.{IsLayout};
 ghost use Rattle.pg_check_types.specs.Known.{denoted, IsWithin};
 ghost use Rattle.pg_check_types.specs.Kinds.{agree};
-ghost use Rattle.pg_check_types.specs.Table.{refers_below, type_of_shape, types_of, type_at, Grows, IsTable, IsAdded};
+ghost use Rattle.pg_check_types.specs.Table.{refers_below, type_of_shape, types_of, type_at, Grows, IsTable, IsAdded, IsBeginning, IsShorter};
 
 use crate::layout::Layout;
 use crate::measures::{
@@ -14,7 +15,7 @@ use crate::measures::{
 };
 use crate::shape::Shape;
 use indexmap::IndexMap;
-use pg_num::Width;
+use pg_read_ast::pg_num::Width;
 use std::alloc::{AllocError, Global};
 use std::marker::Model;
 
@@ -75,6 +76,7 @@ impl<'b> TypeTable<'b> {
     fn add(&mut self, shape: Shape, layout: Layout) -> Result<usize, AllocError>
         requires refers { refers_below (length self.old) shape ≡ true }
         requires layout { IsLayout layout (type_of_shape (types_of self.old) shape) }
+        requires shorter { IfSome layout.shorter (IsShorter (types_of self.old) (type_of_shape (types_of self.old) shape) (length self.old)) }
         ensures found { IfOk result (λ t. slice_get (types_of self.new) t ≡
             Some (type_of_shape (types_of self.old) shape)) }
         ensures grows { Grows (types_of self.old) (types_of self.new) }
@@ -105,7 +107,8 @@ impl<'b> TypeTable<'b> {
     /// How a type lies in memory.
     pub fn layout(&self, number: usize) -> Layout
         requires { number < length (types_of self.now) }
-        ensures { IsLayout result (type_at (types_of self.now) number) }
+        ensures layout { IsLayout result (type_at (types_of self.now) number) }
+        ensures shorter { IfSome result.shorter (IsShorter (types_of self.now) (type_at (types_of self.now) number) number) }
     {
         let (_shape, layout) = self.entry(number);
         layout
@@ -203,8 +206,46 @@ impl<'b> TypeTable<'b> {
             Some (MoreFields (type_at (types_of self.old) front) (type_at (types_of self.old) field))) }
         ensures grows { Grows (types_of self.old) (types_of self.new) }
     {
-        let layout = field_layout(self.layout(front), self.layout(field));
+        // That the types are counted says that a structure's fields are.
+        let _count = self.len();
+        let shorter = self.shorter_behind(front);
+        let layout = field_layout(self.layout(front), self.layout(field), shorter);
         self.add(Shape::MoreFields(front, field), layout)
+    }
+
+    /// The structure of some of the first fields to which one leads that has a field more than `front`. Two steps back
+    /// of one length are one step, so the way from a structure to that of any of its first fields takes the logarithm
+    /// of their number (Myers, An applicative random-access stack, 1983).
+    fn shorter_behind(&self, front: usize) -> usize
+        requires { front < length (types_of self.now) }
+        ensures near { result ≤ front }
+        ensures beginning { IsBeginning (type_at (types_of self.now) result) (type_at (types_of self.now) front) }
+    {
+        let near = self.layout(front);
+        match near.shorter {
+            Some(next) => self.two_back(near.fields, next).unwrap_or(front),
+            None => front,
+        }
+    }
+
+    /// Where two steps back lead from a structure of `fields` fields, of which the first leads to `next`, if they are
+    /// of one length.
+    fn two_back(&self, fields: usize, next: usize) -> Option<usize>
+        requires next { next < length (types_of self.now) }
+        requires fields { length (field_list (type_at (types_of self.now) next)) ≤ fields }
+        ensures { IfSome result (IsShorter (types_of self.now) (type_at (types_of self.now) next) next) }
+    {
+        let middle = self.layout(next);
+        match middle.shorter {
+            Some(last) => {
+                let steps = (
+                    fields - middle.fields,
+                    middle.fields - self.layout(last).fields,
+                );
+                if steps.0 == steps.1 { Some(last) } else { None }
+            }
+            None => None,
+        }
     }
 }
 

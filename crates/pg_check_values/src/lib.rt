@@ -14,6 +14,7 @@ mod uses;
 pub use indices::wrong_indices;
 pub use names::{function_values, unknown_values};
 pub use own_types::add_own_types;
+pub use pg_check_names;
 pub use placed_value::PlacedValue;
 pub use scope::{LineScope, ValueScope};
 pub use type_tests::{TypeTest, passes, unmet, unmet_as};

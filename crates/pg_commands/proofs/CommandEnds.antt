@@ -1,11 +1,11 @@
 -- How a command ends, from what its status says.
-use Rattle.std.proofs.Common.{◌≡◌, ◌∙◌, refl, sym, subst, ℕ, ◌≤◌, ◌⊎◌, inl, inr, Any, List, [], ◌∷◌, Option, Some, None, IfSome, arith}
+use Rattle.std.proofs.Common.{◌≡◌, ◌∙◌, refl, sym, subst, ℕ, ◌≤◌, ◌⊎◌, inl, inr, List, [], Option, Some, None, IfSome, arith}
 use Rattle.pg_ir.specs.Program.{NumberedProgram}
 use Rattle.pg_io.specs.Streams.{AppendsFront, TakesAtMost}
 use Rattle.pg_commands_words.specs.Commands.{Meaning}
 use Rattle.pg_commands.specs.declared.status.Status.{Status}
-use Rattle.pg_commands.specs.declared.status.Status.TheVariants.{Done, Usage, ProgramRefused, ShelfFault, ReadFault, WriteFault, InputLimit, OutOfMemory}
-use Rattle.pg_commands.specs.Commands.{World, WritesWhole, WritesRefusal, FailsToFetch, FailsToRead, FailsToWrite, ExceedsLimit, LacksMemory, EndsAs, IsDue, NoFault, IsOr, DueOfText, UsesCrew}
+use Rattle.pg_commands.specs.declared.status.Status.TheVariants.{Done, Usage, ProgramRefused, ShelfFault, ReadFault, WriteFault, InputLimit, OutOfMemory, BookRefused}
+use Rattle.pg_commands.specs.Commands.{World, WritesWhole, WritesRefusal, WritesBookRefusal, FailsToFetch, FailsToRead, FailsToWrite, ExceedsLimit, LacksMemory, EndsAs, IsDue, NoFault, IsOr, DueOfText, UsesCrew, UsesWorkers}
 use Rattle.pg_commands.specs.Commands.{most_taken, WritesTextFront}
 use Rattle.pg_commands.specs.Replies.{IsReply, IsReplyStatus, IsWritten}
 use Rattle.pg_commands.specs.Texts.{IsAccepted, IsRefusalLine}
@@ -23,6 +23,7 @@ Says w m ReadFault = FailsToRead w m
 Says w m WriteFault = FailsToWrite w m
 Says w m InputLimit = ExceedsLimit w m
 Says w m OutOfMemory = LacksMemory w m
+Says w m BookRefused = WritesBookRefusal w m
 
 -- the counts of faults, where a status tells which rose
 pub record Counts (w : World) (status : Status) : Type 0 where
@@ -30,16 +31,19 @@ pub record Counts (w : World) (status : Status) : Type 0 where
   pub reads : (status ≡ ReadFault) ⊎ (w.source.reads_after ≡ w.source.reads_before)
   pub writes : (status ≡ WriteFault) ⊎ (w.sink.writes_after ≡ w.sink.writes_before)
 
--- the crew made no round where the command doesn't record by it
-abbrev pub OfCrew : World → Meaning → Type 0
-OfCrew w m = UsesCrew m ⊎ (w.crew.rounds_after ≡ w.crew.rounds_before)
+-- the crew that records made no round where the command doesn't record by it, and that which runs workers counted no turn where it
+-- answers no lines
+pub record OfCrews (w : World) (m : Meaning) : Type 0 where
+  pub rounds : UsesCrew m ⊎ (w.crew.rounds_after ≡ w.crew.rounds_before)
+  pub turns : UsesWorkers m ⊎ (w.workers.turns_after ≡ w.workers.turns_before)
 
 pub ends_as : (w : World) (m : Meaning) (status : Status) → Says w m status → Counts w status
-    → TakesAtMost w.source.rest_before w.source.rest_after (most_taken m) → OfCrew w m → (NoFault w m → IsDue w status m) → EndsAs w m status
-ends_as w m status says counts takes crew due = record {
+    → TakesAtMost w.source.rest_before w.source.rest_after (most_taken m) → OfCrews w m → (NoFault w m → IsDue w status m) → EndsAs w m status
+ends_as w m status says counts takes crews due = record {
   no_usage = λ e. subst (Says w m) e says;
   done = λ e. subst (Says w m) e says;
   program_refused = λ e. subst (Says w m) e says;
+  book_refused = λ e. subst (Says w m) e says;
   shelf_fault = λ e. subst (Says w m) e says;
   read_fault = λ e. subst (Says w m) e says;
   write_fault = λ e. subst (Says w m) e says;
@@ -49,15 +53,10 @@ ends_as w m status says counts takes crew due = record {
   reads = counts.reads;
   writes = counts.writes;
   takes = takes;
-  rounds = crew;
+  rounds = crews.rounds;
+  turns = crews.turns;
   due = due;
 }
-
--- ---- names
-
--- what holds of the one name holds of some name
-pub any_one : {X : Type 0} (P : X → Type 0) (x : X) → P x → Any P (x ∷ [])
-any_one P x h = (0, x, omega arith, refl, h)
 
 -- ---- what was told
 
@@ -74,6 +73,10 @@ pub takes_none : (rest : Option (List ℕ)) (n : ℕ) → TakesAtMost rest rest 
 takes_none None n = ([], tt, omega arith)
 takes_none (Some xs) n = ([], refl, omega arith)
 
+-- nothing was taken
+pub takes_same : (old new : Option (List ℕ)) (n : ℕ) → new ≡ old → TakesAtMost old new n
+takes_same old new n same = subst (λ o. TakesAtMost old o n) (sym same) (takes_none old n)
+
 pub takes_within : (old new : Option (List ℕ)) (n m : ℕ) → n ≤ m → TakesAtMost old new n → TakesAtMost old new m
 takes_within old new n m within t = (t.0, t.1, (let h = t.2 in omega (arith, within, h)))
 
@@ -86,14 +89,14 @@ by_reply P Text text written status (inl e) r done refused = subst P (sym e) (do
 by_reply P Text text written status (inr e) r done refused = subst P (sym e) (refused (subst (λ s. IsReply Text text s written) e r))
 
 pub due_reply : (Text : List ℕ → Type 0) (text written : List ℕ) (status : Status) → (Text written → (p : NumberedProgram) × IsAccepted text p)
-    → IsReplyStatus status → IsReply Text text status written → DueOfText (IsOr Done) text status
+    → IsReplyStatus status → IsReply Text text status written → DueOfText (λ p. IsOr Done) text status
 due_reply Text text written status accepted is r =
-    by_reply (λ s. DueOfText (IsOr Done) text s) Text text written status is r
+    by_reply (λ s. DueOfText (λ p. IsOr Done) text s) Text text written status is r
     (λ t. ((λ p a. inl refl), (λ refused. absurd (not_refused text (accepted t).0 (accepted t).1 refused))))
     (λ l. ((λ p a. absurd (not_refused text p a (l.refusal, l.cause))), (λ refused. inl refl)))
 
 -- at want of memory
-pub due_none : (text : List ℕ) → DueOfText (IsOr Done) text OutOfMemory
+pub due_none : (text : List ℕ) → DueOfText (λ p. IsOr Done) text OutOfMemory
 due_none text = ((λ p a. inr refl), (λ refused. inr refl))
 
 -- a front of a reply is one of its text or of the line that refuses the program

@@ -2,7 +2,7 @@
 use Rattle.std.proofs.Common.{◌≡◌, [], refl, codes}
 use Rattle.std.specs.Fmt.{digits}
 use Rattle.pg_read_grammar.specs.declared.fault.ReadFault.TheVariants as reader
-use Rattle.pg_check_rules.specs.declared.fault.CheckKind.TheVariants as check
+use Rattle.pg_check.specs.pg_check_rules.declared.fault.CheckKind.TheVariants as check
 use Rattle.pg_commands.specs.declared.refusals.TextRefusal.TheVariants.{TooLong, Read, Check}
 use Rattle.pg_commands.specs.Refusals.{refusal_line}
 

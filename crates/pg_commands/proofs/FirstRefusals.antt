@@ -4,9 +4,9 @@ use Rattle.std.proofs.Common.{arith, inl, inr, ◌⊎◌}
 use Rattle.std.specs.Prelude.{Contains}
 use Rattle.std.proofs.lemmas.Bool.Decides.{nat_tests}
 use Rattle.pg_read_lex.specs.declared.token.Span.{Span}
-use Rattle.pg_check_rules.specs.declared.fault.CheckKind.{CheckKind}
-use Rattle.pg_check_rules.specs.declared.fault.CheckKind.TheVariants.{UnknownName, Doubled, WrongType, NoBlock, BadPhi, Unsupported, BadSignature, TooLarge, NoMain}
-use Rattle.pg_check_rules.specs.Conditions.{RefusedPlaces, rank, NoLater, IsEarliest, RefusesNothing, IsFirstOf, RefuseNothing}
+use Rattle.pg_check.specs.pg_check_rules.declared.fault.CheckKind.{CheckKind}
+use Rattle.pg_check.specs.pg_check_rules.declared.fault.CheckKind.TheVariants.{UnknownName, Doubled, WrongType, NoBlock, BadPhi, Unsupported, BadSignature, TooLarge, NoMain}
+use Rattle.pg_check.specs.pg_check_rules.Conditions.{RefusedPlaces, rank, NoLater, IsEarliest, RefusesNothing, IsFirstOf, RefuseNothing}
 
 -- ---- not both
 

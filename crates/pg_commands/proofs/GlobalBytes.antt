@@ -6,10 +6,10 @@ use Rattle.std.specs.List.{list_all, enumerate_from}
 use Rattle.pg_read_ast.specs.Syntax.{Val, Const, Consts, ValConst, BytesConst, ArrayConst, StructConst, NoConsts, MoreConsts, Variable, Tree}
 use Rattle.pg_check_types.specs.Resolved.{ResolvedType, IntegerType, PointerType, VoidType, ArrayType, NoFields, MoreFields, resolved}
 use Rattle.pg_check_types.specs.Layout.{bytes_of, round_up, alignment_of, size_of, field_list}
-use Rattle.pg_check_rules.specs.Constants.{constant_word, pointer_word, little_endian, filled, value_bytes, const_bytes, element_bytes, field_bytes, unless_zero, trimmed, bytes_at}
-use Rattle.pg_check_rules.specs.Numbered.{global_at, program_of}
+use Rattle.pg_check.specs.pg_check_rules.Constants.{constant_word, pointer_word, little_endian, filled, value_bytes, const_bytes, element_bytes, field_bytes, unless_zero, trimmed, bytes_at}
+use Rattle.pg_check.specs.pg_check_rules.Numbered.{global_at, program_of}
 use Rattle.pg_read_grammar.specs.Accepted.{IsModule}
-use Rattle.pg_law_effects.specs.Reached.{HoldBytes}
+use Rattle.pg_session_book.specs.pg_law_effects.Reached.{HoldBytes}
 use Rattle.pg_law_canonical.proofs.ReadAgain.{Every}
 use Rattle.pg_law_canonical.proofs.FirstTokens.{fore, aft, both}
 use Rattle.pg_law_canonical.proofs.Names.{is_byte}

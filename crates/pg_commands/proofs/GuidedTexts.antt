@@ -6,31 +6,31 @@ use Rattle.pg_ir.specs.declared.ids.InstrId.{InstrId}
 use Rattle.pg_ir.specs.declared.request.TrapName.{TrapName}
 use Rattle.pg_ir.specs.Program.{NumberedProgram}
 use Rattle.pg_ir.specs.WellFormed.{IsProgram}
-use Rattle.pg_check_rules.specs.Numbered.{program_of}
-use Rattle.pg_check_rules.specs.Conditions.{IsUnrefused}
+use Rattle.pg_check.specs.pg_check_rules.Numbered.{program_of}
+use Rattle.pg_check.specs.pg_check_rules.Conditions.{IsUnrefused}
 use Rattle.pg_read_ast.specs.Syntax.{Tree}
 use Rattle.pg_read_grammar.specs.Accepted.{IsModule}
-use Rattle.pg_run_trace.specs.declared.step.Step.{Step}
-use Rattle.pg_run_trace.specs.declared.turn.Turn.{Turn}
-use Rattle.pg_run_trace.specs.Races.{schedule_of}
-use Rattle.pg_run.specs.declared.outcome.Outcome.{Outcome}
-use Rattle.pg_run.specs.declared.outcome.Outcome.TheVariants as outcomes
-use Rattle.pg_run.specs.declared.outcome.Refusal.TheVariants as refusals
-use Rattle.pg_run.specs.declared.guided_end.GuidedEnd.{GuidedEnd}
-use Rattle.pg_run.specs.declared.guided_end.GuidedEnd.TheVariants as ends
-use Rattle.pg_run.specs.State.{State, exit_value_of, next_of}
-use Rattle.pg_run.specs.MachineStep.{trap_of}
-use Rattle.pg_run.specs.Rotation.{RunResult, rotation_of}
-use Rattle.pg_run.specs.Guided.{guided_of}
-use Rattle.pg_run.specs.Runs.{events}
-use Rattle.pg_run.specs.Permitted.{end_before, full_end, has_spent, trapped, turns_left}
-use Rattle.pg_law_effects.specs.Reached.{HoldBytes}
-use Rattle.pg_law_runs.specs.Cuts.{CanRun}
-use Rattle.pg_law_order.specs.Schedules.{GuidesAs}
+use Rattle.pg_session_book.specs.pg_run_trace.declared.step.Step.{Step}
+use Rattle.pg_session_book.specs.pg_run_trace.declared.turn.Turn.{Turn}
+use Rattle.pg_session_book.specs.pg_run_trace.Races.{schedule_of}
+use Rattle.pg_session_book.specs.pg_run.declared.outcome.Outcome.{Outcome}
+use Rattle.pg_session_book.specs.pg_run.declared.outcome.Outcome.TheVariants as outcomes
+use Rattle.pg_session_book.specs.pg_run.declared.outcome.Refusal.TheVariants as refusals
+use Rattle.pg_session_book.specs.pg_run.declared.guided_end.GuidedEnd.{GuidedEnd}
+use Rattle.pg_session_book.specs.pg_run.declared.guided_end.GuidedEnd.TheVariants as ends
+use Rattle.pg_session_book.specs.pg_run.State.{State, exit_value_of, next_of}
+use Rattle.pg_session_book.specs.pg_run.MachineStep.{trap_of}
+use Rattle.pg_session_book.specs.pg_run.Rotation.{RunResult, rotation_of}
+use Rattle.pg_session_book.specs.pg_run.Guided.{guided_of}
+use Rattle.pg_session_book.specs.pg_run.Runs.{events}
+use Rattle.pg_session_book.specs.pg_run.Permitted.{end_before, full_end, has_spent, trapped, turns_left}
+use Rattle.pg_session_book.specs.pg_law_effects.Reached.{HoldBytes}
+use Rattle.pg_session_book.specs.pg_law_runs.Cuts.{CanRun}
+use Rattle.pg_session_book.specs.pg_law_order.Schedules.{GuidesAs}
 use Rattle.pg_commands.specs.Texts.{IsAccepted, guided_line, once_text, run_along, text_by}
 use Rattle.pg_commands.specs.EndLines.{end_line}
 use Rattle.pg_commands.proofs.GlobalBytes.{globals_hold_bytes}
-use Rattle.pg_session_runner.proofs.TurnCounts.{done_turns}
+use Rattle.pg_session_book.proofs.TurnCounts.{done_turns}
 
 -- ---- a guided run that exits has done all turns
 

@@ -7,8 +7,14 @@ pub mod LongTexts
 pub mod ShelfFaults
 pub mod TextVerdicts
 pub mod CommandEnds
+pub mod CrewCounts
 pub mod OnceEnds
 pub mod ShowEnds
 pub mod TrialEnds
+pub mod WrittenEnds
+pub mod DueStatuses
 pub mod ServeEnds
+pub mod BookEnds
+pub mod SavingsEnd
+pub mod FirstEntries
 pub mod SessionsEnd

@@ -28,9 +28,14 @@ so_many (suc n) = rw (so_many n) refl
 some_long : (n : ℕ) → (text : List ℕ) × (n < length text)
 some_long n = (blanks (n + 1), (let h = so_many (n + 1) in omega (arith, h)))
 
--- a text that is told or not, and is too long: one that is as told, if it is told, and is refused for its length
+-- bytes that are told or not, and are more than a limit: some that are as told, if they are told, and of which this holds
+pub long_bytes : (told : Option (List ℕ)) (limit : ℕ) (Says : List ℕ → Type 0) → IfSome told (λ t. limit < length t) → ((bytes : List ℕ) → limit < length bytes → Says bytes)
+    → (bytes : List ℕ) × IfSome told (λ t. bytes ≡ t) × Says bytes
+long_bytes None limit Says long says = let t = some_long limit in (t.0, tt, says t.0 t.1)
+long_bytes (Some t) limit Says long says = (t, refl, says t long)
+
+-- a text that is too long is refused
 pub long_text : (told : Option (List ℕ)) (line : List ℕ) → IfSome told (λ t. PROGRAM_TEXT_LIMIT < length t)
     → ((text : List ℕ) → PROGRAM_TEXT_LIMIT < length text → IsRefusalLine text line)
     → (text : List ℕ) × IfSome told (λ t. text ≡ t) × IsRefusalLine text line
-long_text None line long refused = let t = some_long PROGRAM_TEXT_LIMIT in (t.0, tt, refused t.0 t.1)
-long_text (Some t) line long refused = (t, refl, refused t long)
+long_text told line = long_bytes told PROGRAM_TEXT_LIMIT (λ text. IsRefusalLine text line)

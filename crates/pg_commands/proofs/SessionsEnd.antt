@@ -1,30 +1,34 @@
 -- How a session of a program ends, by what its runner tells.
-use Rattle.std.proofs.Common.{◌≡◌, sym, subst, ℕ, List, Option}
+use Rattle.std.proofs.Common.{◌≡◌, sym, subst, ℕ, Bool, List, Option}
 use Rattle.std.specs.Prelude.{Err, Ok, OnOk, Result}
 use Rattle.pg_cache.specs.Kept.{Kept}
 use Rattle.pg_ir.specs.Program.{NumberedProgram}
-use Rattle.pg_session.specs.Counts.{Counts, RoseBy, ServesCounted, told}
-use Rattle.pg_session.specs.Texts.{HasBytes}
-use Rattle.pg_session.specs.declared.fault.ServeFault.{ServeFault}
-use Rattle.pg_session_runner.specs.Entries.{EntryParts}
-use Rattle.pg_session_runner.specs.Runs.{Subject, Way, entry_admits, runs_by}
-use Rattle.pg_commands.specs.Commands.{CrewChange, ServesMaking, SinkChange, SourceChange, recordings_of}
+use Rattle.pg_session_book.specs.pg_session.Counts.{Counts, ServesCounted, told}
+use Rattle.pg_session_book.specs.pg_session.Sessions.{Answer}
+use Rattle.pg_session_book.specs.pg_session.Texts.{HasBytes}
+use Rattle.pg_session_book.specs.pg_session.declared.fault.ServeFault.{ServeFault}
+use Rattle.pg_session_book.specs.Entries.{EntryParts}
+use Rattle.pg_session_book.specs.Runs.{Subject, Way, entry_admits, runs_by}
+use Rattle.pg_commands_words.specs.declared.commands.RecordingWay.{RecordingWay}
+use Rattle.pg_commands.specs.Commands.{CrewChange, CrewsMake, ServesMaking, SessionMakes, SinkChange, SourceChange, WorkersChange, session_way}
 use Rattle.pg_commands.specs.Sessions.{SessionEnds, nothing_told, rounds_told}
+use Rattle.pg_commands.proofs.CrewCounts.{OfRecorders, OfWorkers, made_plain, made_rounds, made_telling}
 
 -- what a session that is done tells
-abbrev Done : (ℕ → Type 0) → NumberedProgram → Way → Kept EntryParts → Option (List ℕ) → Option (List ℕ) → Option (List ℕ) → Result (Unit {0}) ServeFault → Type 0
+abbrev Done : (List Answer → Type 0) → NumberedProgram → Way → Kept EntryParts → Option (List ℕ) → Option (List ℕ) → Option (List ℕ) → Result (Unit {0}) ServeFault → Type 0
 Done Makes p way first rest old new ended = OnOk ended (HasBytes rest (ServesMaking Makes p way first old new))
 
-done_telling : (A B : ℕ → Type 0) (p : NumberedProgram) (way : Way) (first : Kept EntryParts) (rest old new : Option (List ℕ)) (ended : Result (Unit {0}) ServeFault)
-    → ((n : ℕ) → A n → B n) → Done A p way first rest old new ended → Done B p way first rest old new ended
-done_telling A B p way first rest old new (Ok done) f d = (d.0, d.1, record { all = d.2.all; makes = f (recordings_of d.2.all.serves.session.answers) d.2.makes })
-done_telling A B p way first rest old new (Err fault) f d = tt
+done_telling : (A B : ℕ → Type 0) (workers : WorkersChange) (p : NumberedProgram) (way : Way) (first : Kept EntryParts) (rest old new : Option (List ℕ)) (ended : Result (Unit {0}) ServeFault)
+    → ((n : ℕ) → A n → B n) → Done (CrewsMake A workers) p way first rest old new ended → Done (CrewsMake B workers) p way first rest old new ended
+done_telling A B workers p way first rest old new (Ok done) f d =
+    (d.0, d.1, record { all = d.2.all; makes = made_telling A B workers d.2.all.serves.session.answers f d.2.makes })
+done_telling A B workers p way first rest old new (Err fault) f d = tt
 
 -- the session tells less of its recordings
-pub ends_telling : (A B : ℕ → Type 0) (p : NumberedProgram) (way : Way) (first : Kept EntryParts) (source : SourceChange) (sink : SinkChange) (ended : Result (Unit {0}) ServeFault)
-    → ((n : ℕ) → A n → B n) → SessionEnds A p way first source sink ended → SessionEnds B p way first source sink ended
-ends_telling A B p way first source sink ended f h = record {
-  done = done_telling A B p way first source.rest_before sink.taken_before sink.taken_after ended f h.done;
+pub ends_telling : (A B : ℕ → Type 0) (workers : WorkersChange) (p : NumberedProgram) (way : Way) (first : Kept EntryParts) (source : SourceChange) (sink : SinkChange) (ended : Result (Unit {0}) ServeFault)
+    → ((n : ℕ) → A n → B n) → SessionEnds (CrewsMake A workers) p way first source sink ended → SessionEnds (CrewsMake B workers) p way first source sink ended
+ends_telling A B workers p way first source sink ended f h = record {
+  done = done_telling A B workers p way first source.rest_before sink.taken_before sink.taken_after ended f h.done;
   input_limit = h.input_limit;
   read_fault = h.read_fault;
   write_fault = h.write_fault;
@@ -38,7 +42,7 @@ ends_telling A B p way first source sink ended f h = record {
 }
 
 -- the runner runs this program, and records so
-pub ends_of : (Makes : ℕ → Type 0) (s : Subject) (p : NumberedProgram) (way : Way) (first : Kept EntryParts) (source : SourceChange) (sink : SinkChange) (ended : Result (Unit {0}) ServeFault)
+pub ends_of : (Makes : List Answer → Type 0) (s : Subject) (p : NumberedProgram) (way : Way) (first : Kept EntryParts) (source : SourceChange) (sink : SinkChange) (ended : Result (Unit {0}) ServeFault)
     → s.program ≡ p → s.way ≡ way → SessionEnds Makes s.program s.way first source sink ended → SessionEnds Makes p way first source sink ended
 ends_of Makes s p way first source sink ended program same h =
     subst (λ (v : Way). SessionEnds Makes p v first source sink ended) same
@@ -47,25 +51,30 @@ ends_of Makes s p way first source sink ended program same h =
 abbrev Counted : Subject → Kept EntryParts → Option (List ℕ) → Option (List ℕ) → Option (List ℕ) → Counts → Counts → Type 0
 Counted s first rest old new before after = HasBytes rest (ServesCounted entry_admits (runs_by s.program s.way) first (told old before) (told new after))
 
--- what a session that is done tells, and nothing of its recordings
-pub done_plain : (s : Subject) (first : Kept EntryParts) (rest old new : Option (List ℕ)) (before after : Counts) (ended : Result (Unit {0}) ServeFault)
-    → OnOk ended (Counted s first rest old new before after)
-    → Done nothing_told s.program s.way first rest old new ended
-done_plain s first rest old new before after (Ok done) d = (d.0, d.1, record { all = d.2.all; makes = tt })
-done_plain s first rest old new before after (Err fault) d = tt
+-- what a session that is done tells: nothing of its recordings, and the turns that the crew counted
+pub done_plain : (s : Subject) (first : Kept EntryParts) (rest old new : Option (List ℕ)) (before after : Counts) (workers : WorkersChange) (ended : Result (Unit {0}) ServeFault)
+    → OfWorkers workers before after → OnOk ended (Counted s first rest old new before after)
+    → Done (CrewsMake nothing_told workers) s.program s.way first rest old new ended
+done_plain s first rest old new before after workers (Ok done) ran d =
+    (d.0, d.1, record { all = d.2.all; makes = made_plain workers d.2.all.serves.session.answers before after ran d.2.counted })
+done_plain s first rest old new before after workers (Err fault) ran d = tt
 
--- and that the rounds of the crew rose by as many
-pub done_rounds : (s : Subject) (first : Kept EntryParts) (rest old new : Option (List ℕ)) (before after : Counts) (crew : CrewChange) (ended : Result (Unit {0}) ServeFault)
-    → before.recordings ≡ crew.rounds_before → crew.rounds_after ≡ after.recordings
-    → OnOk ended (Counted s first rest old new before after)
-    → Done (rounds_told crew) s.program s.way first rest old new ended
-done_rounds s first rest old new before after crew (Ok done) b a d = (
-  d.0,
-  d.1,
-  record {
-    all = d.2.all;
-    makes = let count = recordings_of d.2.all.serves.session.answers in
-        subst (λ (n : ℕ). RoseBy count n crew.rounds_after) b (subst (λ (n : ℕ). RoseBy count before.recordings n) (sym a) d.2.counted.recordings_rose);
-  },
-)
-done_rounds s first rest old new before after crew (Err fault) b a d = tt
+-- and that the rounds of the crew that records rose by as many
+pub done_rounds : (s : Subject) (first : Kept EntryParts) (rest old new : Option (List ℕ)) (before after : Counts) (crew : CrewChange) (workers : WorkersChange) (ended : Result (Unit {0}) ServeFault)
+    → OfRecorders crew before after → OfWorkers workers before after → OnOk ended (Counted s first rest old new before after)
+    → Done (CrewsMake (rounds_told crew) workers) s.program s.way first rest old new ended
+done_rounds s first rest old new before after crew workers (Ok done) own ran d =
+    (d.0, d.1, record { all = d.2.all; makes = made_rounds crew workers d.2.all.serves.session.answers before after own ran d.2.counted })
+done_rounds s first rest old new before after crew workers (Err fault) own ran d = tt
+
+-- ---- by the words
+
+abbrev By : RecordingWay → Bool → CrewChange → WorkersChange → NumberedProgram → Kept EntryParts → SourceChange → SinkChange → Result (Unit {0}) ServeFault → Type 0
+By way only crew workers p first source sink ended = SessionEnds (CrewsMake (SessionMakes way only crew) workers) p (session_way way only) first source sink ended
+
+-- the words choose this way, and whether lines are recorded
+pub session_by : (way own : RecordingWay) (only mine : Bool) (crew : CrewChange) (workers : WorkersChange) (p : NumberedProgram) (first : Kept EntryParts) (source : SourceChange) (sink : SinkChange) (ended : Result (Unit {0}) ServeFault)
+    → way ≡ own → only ≡ mine → By own mine crew workers p first source sink ended → By way only crew workers p first source sink ended
+session_by way own only mine crew workers p first source sink ended same so h =
+    subst (λ (o : Bool). By way o crew workers p first source sink ended) (sym so)
+    (subst (λ (v : RecordingWay). By v mine crew workers p first source sink ended) (sym same) h)

@@ -10,13 +10,13 @@ use Rattle.pg_commands.specs.declared.status.Status.{Status}
 use Rattle.pg_commands.specs.declared.status.Status.TheVariants.{Done, WriteFault}
 use Rattle.pg_commands.specs.Commands.{World, EndsAs, Fetched, IsShown, MakesRounds}
 use Rattle.pg_commands.specs.Replies.{IsReply, IsReplyStatus, IsWritten}
-use Rattle.pg_commands.proofs.CommandEnds.{OfCrew, Says, ends_as, some_same, due_reply, front_of, none_failed}
+use Rattle.pg_commands.proofs.CommandEnds.{OfCrews, Says, ends_as, some_same, due_reply, front_of, none_failed}
 
--- the source isn't read, and the crew makes no round for a command that doesn't record by it
+-- the source isn't read, and the crews do nothing for a command that doesn't need them
 pub record Unread (w : World) (m : Meaning) : Type 0 where
   pub reads : w.source.reads_after ≡ w.source.reads_before
   pub takes : TakesAtMost w.source.rest_before w.source.rest_after 0
-  pub crew : OfCrew w m
+  pub crews : OfCrews w m
 
 abbrev pub Fetches : World → Type 0
 Fetches w = (name : List ℕ) → w.shelf.fetches_after name ≡ w.shelf.fetches_before name
@@ -40,7 +40,7 @@ show_replied : (w : World) (file : Word) (way : RecordingWay) (numbers : List �
     → w.sink.writes_after ≡ w.sink.writes_before → IsReplyStatus status → Makes w way status → Replied w file way numbers status written
     → Appends w.sink.taken_before w.sink.taken_after written → EndsAs w (show file way numbers) status
 show_replied w file way numbers status written unread fetches writes is makes r app =
-    ends_as w (show file way numbers) status (said w file way numbers status written is makes r app) (none_failed w status fetches unread.reads writes) unread.takes unread.crew
+    ends_as w (show file way numbers) status (said w file way numbers status written is makes r app) (none_failed w status fetches unread.reads writes) unread.takes unread.crews
     (λ n. some_same (w.shelf.texts file) _ r.0 r.1 (due_reply (IsShown r.0 way numbers) r.0 written status (λ o. (o.program, o.accepted)) is r.2))
 
 show_cut : (w : World) (file : Word) (way : RecordingWay) (numbers : List ℤ) (status : Status) (written : List ℕ) → Unread w (show file way numbers) → Fetches w
@@ -49,7 +49,7 @@ show_cut : (w : World) (file : Word) (way : RecordingWay) (numbers : List ℤ) (
 show_cut w file way numbers status written unread fetches rose is r cut =
     ends_as w (show file way numbers) WriteFault
     (rose, (r.0, r.1, front_of (IsShown r.0 way numbers) r.0 written w.sink.taken_before w.sink.taken_after status is r.2 cut))
-    (record { fetches = λ name. inr (fetches name); reads = inr unread.reads; writes = inl refl }) unread.takes unread.crew (λ n. absurd (n.writes rose))
+    (record { fetches = λ name. inr (fetches name); reads = inr unread.reads; writes = inl refl }) unread.takes unread.crews (λ n. absurd (n.writes rose))
 
 -- the reply was handed to the sink
 pub show_written : (w : World) (file : Word) (way : RecordingWay) (numbers : List ℤ) (due : Status) (written : List ℕ) (status : Status) → Unread w (show file way numbers) → Fetches w

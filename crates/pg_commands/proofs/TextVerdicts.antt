@@ -8,9 +8,9 @@ use Rattle.pg_read_grammar.specs.declared.fault.ReadFault.{ReadFault}
 use Rattle.pg_read_grammar.specs.Accepted.{IsModule, IsUnread}
 use Rattle.pg_read_grammar.proofs.TextLaws.{module_once, module_or_first, first_not_module, first_once}
 use Rattle.pg_ir.specs.Program.{NumberedProgram}
-use Rattle.pg_check_rules.specs.declared.fault.CheckKind.{CheckKind}
-use Rattle.pg_check_rules.specs.Conditions.{phases, IsFirstRefusal, IsUnrefused}
-use Rattle.pg_check_rules.specs.Numbered.{program_of}
+use Rattle.pg_check.specs.pg_check_rules.declared.fault.CheckKind.{CheckKind}
+use Rattle.pg_check.specs.pg_check_rules.Conditions.{phases, IsFirstRefusal, IsUnrefused}
+use Rattle.pg_check.specs.pg_check_rules.Numbered.{program_of}
 use Rattle.pg_commands.specs.declared.refusals.TextRefusal.{TextRefusal}
 use Rattle.pg_commands.specs.declared.refusals.TextRefusal.TheVariants.{TooLong, Read, Check}
 use Rattle.pg_commands.specs.Refusals.{IsRefusedFor, IsRefused, refusal_name, refusal_place, fault_name, fault_place, kind_name}

@@ -1,10 +1,10 @@
 -- The end line of `once` by the rotation run alone.
 use Rattle.std.specs.Prelude.{List, length, codes, ℕ}
-use Rattle.pg_run_trace.specs.declared.step.Step.{Step}
-use Rattle.pg_run_trace.specs.Races.{schedule_of}
-use Rattle.pg_run.specs.declared.outcome.Outcome.{Outcome}
-use Rattle.pg_run.specs.declared.outcome.Outcome.TheVariants.{Exit, Refused}
-use Rattle.pg_run.specs.declared.outcome.Refusal.TheVariants.{Trap, Budget}
+use Rattle.pg_session_book.specs.pg_run_trace.declared.step.Step.{Step}
+use Rattle.pg_session_book.specs.pg_run_trace.Races.{schedule_of}
+use Rattle.pg_session_book.specs.pg_run.declared.outcome.Outcome.{Outcome}
+use Rattle.pg_session_book.specs.pg_run.declared.outcome.Outcome.TheVariants.{Exit, Refused}
+use Rattle.pg_session_book.specs.pg_run.declared.outcome.Refusal.TheVariants.{Trap, Budget}
 use Rattle.pg_commands.specs.Texts.{exit_line, trap_line}
 
 -- a run of these steps that exits does as many turns along its schedule as that has

@@ -6,4 +6,5 @@ pub mod Replies
 pub mod Statuses
 pub mod Texts
 pub mod Verdicts
+pub mod Savings
 pub mod Sessions

@@ -2,7 +2,7 @@
 use Rattle.std.specs.Prelude.{ℕ, ℤ, ◌<◌, ◌^◌, List, length, Option, Some, None}
 use Rattle.pg_io.specs.declared.shelf.FetchFault.{FetchFault}
 use Rattle.pg_io.specs.declared.shelf.FetchFault.TheVariants as fetches
-use Rattle.pg_law_runs.specs.Cuts.{CanRun}
+use Rattle.pg_session_book.specs.pg_law_runs.Cuts.{CanRun}
 use Rattle.pg_commands.specs.declared.programs.Loaded.{Loaded}
 use Rattle.pg_commands.specs.declared.programs.Loaded.TheVariants.{Accepted, Refused}
 use Rattle.pg_commands.specs.declared.programs.NoProgram.{NoProgram}

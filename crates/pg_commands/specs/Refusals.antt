@@ -8,9 +8,9 @@ use Rattle.pg_read_ast.specs.Syntax.{Tree}
 use Rattle.pg_read_grammar.specs.declared.fault.ReadFault.{ReadFault}
 use Rattle.pg_read_grammar.specs.declared.fault.ReadFault.TheVariants as reader
 use Rattle.pg_read_grammar.specs.Accepted.{IsModule, IsUnread}
-use Rattle.pg_check_rules.specs.declared.fault.CheckKind.{CheckKind}
-use Rattle.pg_check_rules.specs.declared.fault.CheckKind.TheVariants as check
-use Rattle.pg_check_rules.specs.Conditions.{IsFirstRefusal}
+use Rattle.pg_check.specs.pg_check_rules.declared.fault.CheckKind.{CheckKind}
+use Rattle.pg_check.specs.pg_check_rules.declared.fault.CheckKind.TheVariants as check
+use Rattle.pg_check.specs.pg_check_rules.Conditions.{IsFirstRefusal}
 use Rattle.pg_commands.specs.declared.refusals.TextRefusal.{TextRefusal}
 use Rattle.pg_commands.specs.declared.refusals.TextRefusal.TheVariants.{TooLong, Read, Check}
 

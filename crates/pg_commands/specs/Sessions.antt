@@ -1,18 +1,27 @@
--- How a session of a program ended.
-use Rattle.std.specs.Prelude.{◌≡◌, ℕ, ◌+◌, ◌⊎◌, IsErrOf, OnOk, Result}
+-- What a session of a program begins with, and how it ended.
+use Rattle.std.specs.Prelude.{◌≡◌, ℕ, ◌+◌, ◌⊎◌, IsErrOf, List, OnOk, Option, Result}
 use Rattle.pg_cache.specs.Kept.{Kept}
+use Rattle.pg_commands_words.specs.Pieces.{Word}
 use Rattle.pg_ir.specs.Program.{NumberedProgram}
 use Rattle.pg_io.specs.Faults.{Rose}
 use Rattle.pg_io.specs.Streams.{TakesAtMost}
 use Rattle.pg_num.specs.declared.limits.TheConstants.{SESSION_INPUT_LIMIT}
-use Rattle.pg_session.specs.Counts.{RoseBy}
-use Rattle.pg_session.specs.Lines.{lines_of}
-use Rattle.pg_session.specs.Texts.{HasBytes, ServesFront, ServesLimit, ServesTaken}
-use Rattle.pg_session.specs.declared.fault.ServeFault.{ServeFault}
-use Rattle.pg_session.specs.declared.fault.ServeFault.TheVariants as fault
-use Rattle.pg_session_runner.specs.Entries.{EntryParts}
-use Rattle.pg_session_runner.specs.Runs.{Way, entry_admits, runs_by}
-use Rattle.pg_commands.specs.Commands.{CrewChange, ServesMaking, SinkChange, SourceChange}
+use Rattle.pg_session_book.specs.pg_session.Counts.{RoseBy}
+use Rattle.pg_session_book.specs.pg_session.Lines.{lines_of}
+use Rattle.pg_session_book.specs.pg_session.Sessions.{Answer}
+use Rattle.pg_session_book.specs.pg_session.Texts.{HasBytes, ServesFront, ServesLimit, ServesTaken}
+use Rattle.pg_session_book.specs.pg_session.declared.fault.ServeFault.{ServeFault}
+use Rattle.pg_session_book.specs.pg_session.declared.fault.ServeFault.TheVariants as fault
+use Rattle.pg_session_book.specs.Entries.{EntryParts}
+use Rattle.pg_session_book.specs.Runs.{Way, entry_admits, runs_by}
+use Rattle.pg_session_book.specs.declared.opening.OpenedBook.{OpenedBook}
+use Rattle.pg_session_book.specs.declared.opening.OpenedBook.TheVariants.{Entries, Refused}
+use Rattle.pg_commands.specs.Commands.{Begins, CrewChange, IsBookLine, ServesMaking, SinkChange, SourceChange}
+
+-- what a session of the program begins with, or the line that refuses its book
+abbrev pub IsOpening : (List ℕ → Option (List ℕ)) → Option Word → NumberedProgram → OpenedBook → Type 0
+IsOpening texts named p (Entries first) = Begins texts named p first
+IsOpening texts named p (Refused line) = IsBookLine texts named p line.items
 
 -- what is told of so many recordings: nothing; or that the crew made as many rounds at least, as far as they are counted
 abbrev pub nothing_told : ℕ → Type 0
@@ -27,7 +36,7 @@ ServesAFront p way first source sink =
     HasBytes source.rest_before (λ input. ServesFront entry_admits (runs_by p way) first (lines_of input) sink.taken_before sink.taken_after)
 
 -- a session of the program p, whose inputs are recorded in this way, began with these entries and ended so
-pub record SessionEnds (Makes : ℕ → Type 0) (p : NumberedProgram) (way : Way) (first : Kept EntryParts) (source : SourceChange) (sink : SinkChange) (ended : Result (Unit {0}) ServeFault) : Type 0 where
+pub record SessionEnds (Makes : List Answer → Type 0) (p : NumberedProgram) (way : Way) (first : Kept EntryParts) (source : SourceChange) (sink : SinkChange) (ended : Result (Unit {0}) ServeFault) : Type 0 where
   pub done : OnOk ended (HasBytes source.rest_before (ServesMaking Makes p way first sink.taken_before sink.taken_after))
   pub input_limit : IsErrOf ended fault.InputLimit → HasBytes source.rest_before (ServesLimit entry_admits (runs_by p way) first sink.taken_before sink.taken_after)
   pub read_fault : IsErrOf ended fault.ReadFault → ServesTaken entry_admits (runs_by p way) first source.rest_before source.rest_after sink.taken_before sink.taken_after

@@ -1,9 +1,9 @@
 -- The exit status of the process, and that of a session.
 use Rattle.std.specs.Prelude.{ℕ, Result, Ok, Err}
-use Rattle.pg_session.specs.declared.fault.ServeFault.{ServeFault}
-use Rattle.pg_session.specs.declared.fault.ServeFault.TheVariants as fault
+use Rattle.pg_session_book.specs.pg_session.declared.fault.ServeFault.{ServeFault}
+use Rattle.pg_session_book.specs.pg_session.declared.fault.ServeFault.TheVariants as fault
 use Rattle.pg_commands.specs.declared.status.Status.{Status}
-use Rattle.pg_commands.specs.declared.status.Status.TheVariants.{Done, Usage, ProgramRefused, ShelfFault, ReadFault, WriteFault, InputLimit, OutOfMemory}
+use Rattle.pg_commands.specs.declared.status.Status.TheVariants.{Done, Usage, ProgramRefused, ShelfFault, ReadFault, WriteFault, InputLimit, OutOfMemory, BookRefused}
 
 abbrev pub status_code : Status → ℕ
 status_code Done = 0
@@ -14,6 +14,7 @@ status_code ReadFault = 5
 status_code WriteFault = 6
 status_code InputLimit = 7
 status_code OutOfMemory = 8
+status_code BookRefused = 9
 
 abbrev pub status_of : ServeFault → Status
 status_of fault.ReadFault = ReadFault

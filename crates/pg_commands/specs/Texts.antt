@@ -8,17 +8,17 @@ use Rattle.pg_ir.specs.declared.ids.InstrId.{InstrId}
 use Rattle.pg_ir.specs.declared.request.TrapName.{TrapName}
 use Rattle.pg_ir.specs.Program.{NumberedProgram}
 use Rattle.pg_ir.specs.TrapNames.{trap_text}
-use Rattle.pg_check_rules.specs.Conditions.{IsUnrefused}
-use Rattle.pg_check_rules.specs.Numbered.{program_of}
-use Rattle.pg_run_trace.specs.declared.step.Step.{Step}
-use Rattle.pg_run_trace.specs.Races.{schedule_of}
-use Rattle.pg_run.specs.Rotation.{RunResult, rotation_of}
-use Rattle.pg_run.specs.Guided.{GuidedRun, guided_of}
-use Rattle.pg_run.specs.declared.outcome.Outcome.{Outcome}
-use Rattle.pg_run.specs.declared.outcome.Outcome.TheVariants.{Exit, Refused}
-use Rattle.pg_run.specs.declared.outcome.Refusal.TheVariants.{Trap, Budget}
-use Rattle.pg_run.specs.declared.guided_end.GuidedEnd.{GuidedEnd}
-use Rattle.pg_run.specs.declared.guided_end.GuidedEnd.TheVariants as guided
+use Rattle.pg_check.specs.pg_check_rules.Conditions.{IsUnrefused}
+use Rattle.pg_check.specs.pg_check_rules.Numbered.{program_of}
+use Rattle.pg_session_book.specs.pg_run_trace.declared.step.Step.{Step}
+use Rattle.pg_session_book.specs.pg_run_trace.Races.{schedule_of}
+use Rattle.pg_session_book.specs.pg_run.Rotation.{RunResult, rotation_of}
+use Rattle.pg_session_book.specs.pg_run.Guided.{GuidedRun, guided_of}
+use Rattle.pg_session_book.specs.pg_run.declared.outcome.Outcome.{Outcome}
+use Rattle.pg_session_book.specs.pg_run.declared.outcome.Outcome.TheVariants.{Exit, Refused}
+use Rattle.pg_session_book.specs.pg_run.declared.outcome.Refusal.TheVariants.{Trap, Budget}
+use Rattle.pg_session_book.specs.pg_run.declared.guided_end.GuidedEnd.{GuidedEnd}
+use Rattle.pg_session_book.specs.pg_run.declared.guided_end.GuidedEnd.TheVariants as guided
 use Rattle.pg_commands.specs.declared.refusals.TextRefusal.{TextRefusal}
 use Rattle.pg_commands.specs.Refusals.{IsRefusedFor, refusal_line}
 

@@ -2,17 +2,19 @@
 
 ghost use Rattle.std.specs.Prelude.{◌≡◌, ◌⊎◌, ◌<◌, ◌^◌, ℕ, ℤ, All, List, length};
 ghost use Rattle.pg_ir.specs.Program.{NumberedProgram};
-ghost use Rattle.pg_run_trace.specs.Races.{schedule_of};
-ghost use Rattle.pg_run.specs.Rotation.{rotation_of};
-ghost use Rattle.pg_law_runs.specs.Cuts.{CanRun};
+ghost use Rattle.pg_session_book.specs.pg_run_trace.Races.{schedule_of};
+ghost use Rattle.pg_session_book.specs.pg_run.Rotation.{rotation_of};
+ghost use Rattle.pg_session_book.specs.pg_law_runs.Cuts.{CanRun};
 ghost use Rattle.pg_commands.specs.declared.refusals.TextRefusal.{TextRefusal};
 ghost use Rattle.pg_commands.specs.Refusals.{IsRefused, IsRefusedFor, refusal_name, refusal_place};
 ghost use Rattle.pg_commands.specs.Texts.{IsAccepted, run_along};
 
-use pg_law_numbering::laws::an_accepted_module_is_a_program;
-use pg_law_order::recorded::the_schedule_of_a_rotation_run_is_good;
-use pg_run::guided_laws::{a_guided_run_is_a_run, a_guided_run_that_exits_is_full};
-use pg_run::{GuidedEnd, Outcome};
+use pg_check::pg_law_numbering::laws::an_accepted_module_is_a_program;
+use pg_session_book::pg_law_order::recorded::the_schedule_of_a_rotation_run_is_good;
+use pg_session_book::pg_run::guided_laws::{
+    a_guided_run_is_a_run, a_guided_run_that_exits_is_full,
+};
+use pg_session_book::pg_run::{GuidedEnd, Outcome};
 
 /// A text is accepted or refused, and not both.
 pub fn a_text_is_accepted_or_refused()

@@ -1,11 +1,13 @@
 //! The commands of the program: their words, their input and their text.
 #![tactic(auto)]
 
+mod books;
 pub mod laws;
 mod once;
 mod programs;
 mod refusals;
 mod replies;
+mod saving;
 mod serve;
 mod session;
 mod show;
@@ -15,6 +17,7 @@ mod trial;
 mod verdicts;
 
 pub use pg_io::{ReadAllFault, read_all, write_all};
+pub use pg_session_book::{pg_free, pg_go};
 pub use refusals::TextRefusal;
 pub use session::peregrine;
 pub use status::Status;

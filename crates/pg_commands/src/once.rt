@@ -3,8 +3,8 @@ ghost use Rattle.std.specs.Prelude.{◌≡◌, ◌≤◌, ◌<◌, ◌+◌, ◌�
 ghost use Rattle.pg_io.specs.Faults.{Rose};
 ghost use Rattle.pg_io.specs.Streams.{TakesAtMost};
 ghost use Rattle.pg_num.specs.declared.limits.TheConstants.{PROGRAM_TEXT_LIMIT, QUANTUM_LIMIT};
-ghost use Rattle.pg_session.specs.Texts.{HasBytes};
-ghost use Rattle.pg_commands.specs.Commands.{EndsAs, crew_change, shelf_change, sink_change, source_change, world};
+ghost use Rattle.pg_session_book.specs.pg_session.Texts.{HasBytes};
+ghost use Rattle.pg_commands.specs.Commands.{EndsAs, crew_change, shelf_change, sink_change, source_change, workers_change, world};
 ghost use Rattle.pg_commands.specs.Replies.{IsReply, IsReplyStatus, unread};
 ghost use Rattle.pg_commands.specs.Texts.{IsOnceText};
 ghost use Rattle.pg_commands.specs.declared.once.NoReply.TheVariants.{OutOfMemory};
@@ -104,9 +104,9 @@ pub(crate) fn once<S: Source, K: Sink>(
 ) -> Status
     requires least { 1 ≤ command.now.quantum }
     requires most { command.now.quantum ≤ QUANTUM_LIMIT }
-    ensures ends { (texts : List ℕ → Option (List ℕ)) (fetches : List ℕ → ℕ) (rounds : ℕ) → EndsAs
+    ensures ends { (texts : List ℕ → Option (List ℕ)) (fetches : List ℕ → ℕ) (rounds turns : ℕ) → EndsAs
         (world (shelf_change texts fetches fetches) (source_change (S.rest src.old) (S.rest src.new) (S.faults src.old) (S.faults src.new))
-        (sink_change (K.taken out.old) (K.taken out.new) (K.faults out.old) (K.faults out.new)) (crew_change rounds rounds))
+        (sink_change (K.taken out.old) (K.taken out.new) (K.faults out.old) (K.faults out.new)) (crew_change rounds rounds) (workers_change turns turns))
         (once command.now.quantum command.now.numbers.items) result }
     ensures keeps { (result ≡ Status.ReadFault) ⊎ (result ≡ Status.OutOfMemory) → out.new ≡ out.old }
 {

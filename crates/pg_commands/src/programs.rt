@@ -64,8 +64,8 @@ pub(crate) fn too_long_line(alloc: Global) -> Result<Vec<u8>, AllocError>
     Ok(line)
 }
 
-/// Why there is no program text where a fetch gave none; none where the text is too long, since that is refused.
-fn unfetched(fault: FetchFault) -> Option<NoProgram>
+/// Why there is no text where a fetch gave none; none where the text is too long, since that is refused.
+pub(crate) fn unfetched(fault: FetchFault) -> Option<NoProgram>
     ensures cause { result ≡ unfetched fault }
     ensures too_long { IfNone result (fault ≡ FetchFault.TooLong) }
     ensures failed { IfSome result (λ c. (c ≡ NoProgram.ShelfFault → fault ≡ FetchFault.Failed) × (fault ≡ FetchFault.Failed → c ≡ NoProgram.ShelfFault)) }

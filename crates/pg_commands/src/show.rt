@@ -2,21 +2,21 @@
 ghost use Rattle.std.specs.Prelude.{◌≡◌, ◌≤◌, ◌⊎◌, ◌<◌, ◌^◌, ℕ, ℤ, List, length, string_bytes, Option, IfOk, IsErrOf, OnOk};
 ghost use Rattle.pg_io.specs.Faults.{Rose};
 ghost use Rattle.pg_num.specs.declared.limits.TheConstants.{NUMBERS_LIMIT};
-ghost use Rattle.pg_law_runs.specs.Cuts.{CanRun};
+ghost use Rattle.pg_session_book.specs.pg_law_runs.Cuts.{CanRun};
 ghost use Rattle.pg_commands_words.specs.Commands.{IsWay, show};
-ghost use Rattle.pg_session_runner.specs.Runs.{runs_by, shown};
-ghost use Rattle.pg_session.specs.Shows.{IsShowText};
-ghost use Rattle.pg_commands.specs.Commands.{ByCrew, EndsAs, Fetched, IsShown, MakesRounds, crew_change, shelf_change, sink_change, source_change, way_of, world};
+ghost use Rattle.pg_session_book.specs.Runs.{runs_by, shown};
+ghost use Rattle.pg_session_book.specs.pg_session.Shows.{IsShowText};
+ghost use Rattle.pg_commands.specs.Commands.{ByCrew, EndsAs, Fetched, IsShown, MakesRounds, crew_change, shelf_change, sink_change, source_change, way_of, workers_change, world};
 ghost use Rattle.pg_commands.specs.Replies.{IsReply, IsReplyStatus};
 
 use crate::programs::{Loaded, NoProgram, fetch_program};
 use crate::replies::{Reply, write_text};
 use crate::status::Status;
 use pg_commands_words::{RecordingWay, Show};
-use pg_free::{FreeCrew, Seeded};
 use pg_io::{Shelf, Sink};
 use pg_ir::Program;
-use pg_session_runner::{show_freely, show_in_rotation};
+use pg_session_book::pg_free::{FreeCrew, Seeded};
+use pg_session_book::{show_freely, show_in_rotation};
 use std::alloc::{AllocError, Global};
 use std::sync::Wait;
 use std::thread::Threads;
@@ -91,9 +91,9 @@ pub(crate) fn show<R: Threads + Wait + Sync, K: Sink, F: Shelf, G: FreeCrew>(
 ) -> Status
     requires way { IsWay command.now.way }
     requires few { length command.now.numbers.items ≤ NUMBERS_LIMIT }
-    ensures ends { (rest : Option (List ℕ)) (reads : ℕ) → EndsAs (world (shelf_change (F.text shelf.old) (F.faults shelf.old) (F.faults shelf.new))
+    ensures ends { (rest : Option (List ℕ)) (reads turns : ℕ) → EndsAs (world (shelf_change (F.text shelf.old) (F.faults shelf.old) (F.faults shelf.new))
         (source_change rest rest reads reads) (sink_change (K.taken out.old) (K.taken out.new) (K.faults out.old) (K.faults out.new))
-        (crew_change (G.rounds free.old) (G.rounds free.new)))
+        (crew_change (G.rounds free.old) (G.rounds free.new)) (workers_change turns turns))
         (show (string_bytes command.now.file) command.now.way command.now.numbers.items) result }
     ensures keeps { (result ≡ Status.ReadFault) ⊎ (result ≡ Status.OutOfMemory) → out.new ≡ out.old }
     ensures texts_stay { (name : List ℕ) → F.text shelf.new name ≡ F.text shelf.old name }

@@ -22,6 +22,8 @@ pub enum Status {
     InputLimit,
     /// There was no memory.
     OutOfMemory,
+    /// The book is refused. The line that says why was written.
+    BookRefused,
 }
 
 impl Status {
@@ -38,6 +40,7 @@ impl Status {
             Status::WriteFault => 6,
             Status::InputLimit => 7,
             Status::OutOfMemory => 8,
+            Status::BookRefused => 9,
         }
     }
 }

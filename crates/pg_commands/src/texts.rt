@@ -1,16 +1,16 @@
 //! The texts that are written.
 ghost use Rattle.std.specs.Prelude.{◌≡◌, ◌≤◌, IfOk, length, string_bytes};
 ghost use Rattle.pg_num.specs.declared.limits.TheConstants.{QUANTUM_LIMIT};
-ghost use Rattle.pg_run_trace.specs.Races.{schedule_of};
-ghost use Rattle.pg_law_runs.specs.Cuts.{CanRun};
+ghost use Rattle.pg_session_book.specs.pg_run_trace.Races.{schedule_of};
+ghost use Rattle.pg_session_book.specs.pg_law_runs.Cuts.{CanRun};
 ghost use Rattle.pg_commands.specs.EndLines.{end_line};
 ghost use Rattle.pg_commands.specs.Texts.{once_text};
 
 use crate::laws::the_guided_run_of_once_exits;
 use pg_ir::Program;
-use pg_run::{Outcome, Recorded, Refusal, rotate};
-use pg_run_trace::Trace;
 use pg_schedule::{hybrid, races};
+use pg_session_book::pg_run::{Outcome, Recorded, Refusal, rotate};
+use pg_session_book::pg_run_trace::Trace;
 use std::alloc::{AllocError, Global};
 
 /// How many turns the schedule of a trace has.

@@ -6,9 +6,9 @@ ghost use Rattle.pg_read_grammar.specs.Accepted.{IsModule};
 ghost use Rattle.pg_commands.specs.Verdicts.{IsVerdict};
 
 use crate::refusals::TextRefusal;
+use pg_check::pg_law_numbering::laws::a_module_is_in_order;
 use pg_check::{CheckFault, check};
 use pg_ir::Program;
-use pg_law_numbering::laws::a_module_is_in_order;
 use pg_num::limits::PROGRAM_TEXT_LIMIT;
 use pg_read::parse;
 use pg_read_ast::Module;

@@ -131,14 +131,11 @@ pub record IsWritten (words : List Word) (meaning : Meaning) : Type 0 where
 
 -- ---- what the program has of these
 
-abbrev pub is_plain_session : Option Word → Bool → Bool → Bool
-is_plain_session named only json = not (is_some named) && (not only && not json)
-
 -- the program has this command, with these values
 abbrev pub is_offered : Meaning → Bool
 is_offered (once quantum numbers) = true
-is_offered (serve file way named only json) = is_plain_session named only json
-is_offered (book file way) = false
+is_offered (serve file way named only json) = not json
+is_offered (book file way) = true
 is_offered (show file way numbers) = true
 is_offered (conditions file way numbers) = false
 is_offered (trial number) = true

@@ -91,9 +91,9 @@ impl Command {
         ensures { result ≡ is_offered (meaning_of self.now) }
     {
         match self {
-            Command::Once(_) | Command::Show(_) | Command::Trial(_) => true,
-            Command::Serve(it) => it.book.is_none() && !it.only && !it.json,
-            Command::Book(_) | Command::Conditions(_) => false,
+            Command::Once(_) | Command::Book(_) | Command::Show(_) | Command::Trial(_) => true,
+            Command::Serve(it) => !it.json,
+            Command::Conditions(_) => false,
         }
     }
 }

@@ -5,8 +5,8 @@ use Rattle.std.proofs.lemmas.Bool.{cases_lt, eq-eqb, eqb-true}
 use Rattle.std.proofs.lemmas.List.{get_or-set_other, get_or-set_same, length-set}
 use Rattle.std.proofs.lemmas.Option.{slice_get-get_or}
 use Rattle.atomic_table.specs.Seated.{TableId}
-use Rattle.pg_law_course.proofs.CoursePlaces.{get_length}
-use Rattle.pg_seats.specs.declared.run.Run.{Run}
+use Rattle.pg_worker.proofs.of_pg_law_course.CoursePlaces.{get_length}
+use Rattle.pg_worker.specs.pg_seats.declared.run.Run.{Run}
 use Rattle.pg_worker.specs.declared.worker.Worker.{Worker}
 use Rattle.pg_worker.specs.Standing.{IsAt, WentOn}
 use Rattle.pg_crew.specs.Workers.{AreWorkers, HasGone, HaveGone, counted, done_by, turns_between, turns_of_first, turns_since}

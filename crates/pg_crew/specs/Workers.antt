@@ -1,10 +1,10 @@
 -- The workers of a run as a list, and what a round changes of them.
 use Rattle.std.specs.Prelude.{◌≡◌, ℕ, zero, suc, ◌+◌, ◌-◌, ◌^◌, ◌<◌, ◌≤◌, min, List, length, Option, Some, None, slice_get, slice_index, slice_index_or}
 use Rattle.atomic_table.specs.Seated.{TableId}
-use Rattle.pg_num.specs.declared.limits.TheConstants.{THREAD_LIMIT}
-use Rattle.pg_law_course.specs.Course.{course}
-use Rattle.pg_seats.specs.declared.run.Run.{Run}
-use Rattle.pg_seats.specs.Plan.{IsEnforced, turns_in}
+use Rattle.pg_worker.specs.pg_num.declared.limits.TheConstants.{THREAD_LIMIT}
+use Rattle.pg_worker.specs.pg_law_course.Course.{course}
+use Rattle.pg_worker.specs.pg_seats.declared.run.Run.{Run}
+use Rattle.pg_worker.specs.pg_seats.Plan.{IsEnforced, turns_in}
 use Rattle.pg_worker.specs.declared.worker.Paused.{Paused}
 use Rattle.pg_worker.specs.declared.worker.Worker.{Worker}
 use Rattle.pg_worker.specs.Standing.{HasPaused, IsAt, WentOn}

@@ -1,11 +1,11 @@
 //! The count of the turns that are done in a round.
 
 ghost use Rattle.std.specs.Prelude.{◌≡◌, ◌<◌, ◌≤◌, ℕ, length, slice_get, slice_index};
-ghost use Rattle.pg_num.specs.declared.limits.TheConstants.{THREAD_LIMIT};
+ghost use Rattle.pg_worker.specs.pg_num.declared.limits.TheConstants.{THREAD_LIMIT};
 ghost use Rattle.pg_crew.specs.Workers.{counted, done_by, turns_since};
 
-use pg_num::limits::THREAD_LIMIT;
 use pg_worker::Worker;
+use pg_worker::pg_num::limits::THREAD_LIMIT;
 
 /// How many turns each of the workers has done.
 #[derive(Drop)]

@@ -11,7 +11,7 @@ use std::thread::Threads;
 /// Runs the workers of a run in rounds. It counts the turns that are done in its rounds; the count is a number of 64 bits, and stands
 /// still at its greatest value.
 pub trait Crew {
-    /// The count.
+    /// How many turns it counted.
     ghost turns: { Self → ℕ };
 
     /// Makes a round: each worker goes on until its next turn isn't due, or until it has no turn or no step left.
@@ -22,4 +22,17 @@ pub trait Crew {
         ensures workers { AreWorkers (run_in shared.now) (table_in shared.now) workers.new }
         ensures gone { HaveGone (run_in shared.now) workers.old workers.new }
         ensures counts { turns self.new ≡ counted (turns self.old) (turns_between workers.old workers.new) };
+
+    /// The count.
+    fn count(&self) -> u64
+        ensures { result ≡ turns self.now };
+
+    /// A crew of the same sort, without hooks, that made no round.
+    fn another(&self) -> Self
+        ensures turns { turns result ≡ 0 };
+
+    /// Tells the crew that its next rounds are of a run along the schedule of an entry whose recording had so many steps. A crew may
+    /// run a short one in one thread.
+    fn expect(&mut self, steps: u64)
+        ensures turns { turns self.new ≡ turns self.old };
 }

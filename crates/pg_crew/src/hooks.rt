@@ -4,7 +4,7 @@ ghost use Rattle.std.specs.Prelude.{◌≡◌};
 ghost use Rattle.pg_crew.specs.Workers.{HasGone};
 ghost use Rattle.pg_worker.specs.Standing.{IsAt, run_in, table_in};
 
-use pg_ir::{InstrId, ThreadNo};
+use pg_worker::pg_ir::{InstrId, ThreadNo};
 use pg_worker::{Hook, NoHook, Shared, Worker};
 
 /// A hook that was handed in.

@@ -1,13 +1,17 @@
 //! Crews: who runs the workers of a run, round by round, in one host thread or in several.
 #![tactic(auto)]
 
+mod by_length;
 mod counts;
 mod crew;
 mod hooks;
 mod one_by_one;
 mod together;
 
+pub use by_length::{ByLength, LONG_RUN};
 pub use crew::Crew;
 pub use hooks::AnyHook;
 pub use one_by_one::OneByOne;
+pub use pg_worker;
+pub use pg_worker::{pg_ir, pg_num, pg_run, pg_run_trace, pg_seats};
 pub use together::Together;

@@ -34,13 +34,6 @@ impl OneByOne {
     {
         OneByOne { hooks, turns: 0 }
     }
-
-    /// How many turns were done in its rounds.
-    pub fn turns(&self) -> u64
-        ensures { result ≡ self.now }
-    {
-        self.turns
-    }
 }
 
 /// A segment of each worker, one after another.
@@ -56,7 +49,12 @@ fn in_turn(hooks: &[AnyHook], shared: &Shared<'_>, workers: &mut [Worker])
 }
 
 /// A round. Gives the count behind it.
-fn counted_round(hooks: &[AnyHook], count: u64, shared: &Shared<'_>, workers: &mut [Worker]) -> u64
+pub(crate) fn counted_round(
+    hooks: &[AnyHook],
+    count: u64,
+    shared: &Shared<'_>,
+    workers: &mut [Worker],
+) -> u64
     requires gated { shared.now.gated ≡ shared.now.schedule.now.gated }
     requires workers { AreWorkers (run_in shared.now) (table_in shared.now) workers.old }
     ensures workers { AreWorkers (run_in shared.now) (table_in shared.now) workers.new }
@@ -74,5 +72,17 @@ impl Crew for OneByOne {
     fn round<R: Threads + Sync>(&mut self, rt: &R, shared: &Shared<'_>, workers: &mut [Worker]) {
         let _rt = rt;
         self.turns = counted_round(self.hooks.as_slice(), self.turns, shared, workers);
+    }
+
+    fn count(&self) -> u64 {
+        self.turns
+    }
+
+    fn another(&self) -> OneByOne {
+        OneByOne::new(Vec::new(*self.hooks.allocator()))
+    }
+
+    fn expect(&mut self, steps: u64) {
+        let _steps = steps;
     }
 }

@@ -10,6 +10,7 @@ use crate::crew::Crew;
 use crate::hooks::{AnyHook, go_on};
 use pg_worker::{Shared, Worker};
 use std::marker::Model;
+use std::sync::atomic::Ordering;
 use std::thread;
 use std::thread::Threads;
 
@@ -35,13 +36,6 @@ impl Together {
     {
         Together { hooks, turns: 0 }
     }
-
-    /// How many turns were done in its rounds.
-    pub fn turns(&self) -> u64
-        ensures { result ≡ self.now }
-    {
-        self.turns
-    }
 }
 
 /// A segment of each worker, each in a host thread of its own.
@@ -57,6 +51,7 @@ fn in_threads<R: Threads + Sync>(
     ensures gone { HaveGone (run_in shared.now) workers.old workers.new }
 {
     let threads = workers.len().max(1);
+    shared.under_way.store(threads as u64, Ordering::SeqCst);
     thread::for_each_mut(
         rt,
         workers,
@@ -66,12 +61,13 @@ fn in_threads<R: Threads + Sync>(
             ensures { IsAt (run_in shared.entry.now) (table_in shared.entry.now) 0 worker.new × HasGone (run_in shared.entry.now) worker.old worker.new }
         {
             go_on(hooks, i, shared, worker);
+            shared.under_way.fetch_sub(1, Ordering::SeqCst);
         },
     );
 }
 
 /// A round. Gives the count behind it.
-fn counted_round<R: Threads + Sync>(
+pub(crate) fn counted_round<R: Threads + Sync>(
     rt: &R,
     hooks: &[AnyHook],
     count: u64,
@@ -94,5 +90,17 @@ impl Crew for Together {
 
     fn round<R: Threads + Sync>(&mut self, rt: &R, shared: &Shared<'_>, workers: &mut [Worker]) {
         self.turns = counted_round(rt, self.hooks.as_slice(), self.turns, shared, workers);
+    }
+
+    fn count(&self) -> u64 {
+        self.turns
+    }
+
+    fn another(&self) -> Together {
+        Together::new(Vec::new(*self.hooks.allocator()))
+    }
+
+    fn expect(&mut self, steps: u64) {
+        let _steps = steps;
     }
 }

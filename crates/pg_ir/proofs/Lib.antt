@@ -12,3 +12,4 @@ pub mod PassingPrefix
 pub mod ProgramDecide
 pub mod GrowingTables
 pub mod TypesDecide
+pub use Rattle.pg_num.proofs as of_pg_num

@@ -9,3 +9,4 @@ pub mod Tables
 pub mod TrapNames
 pub mod TypeTests
 pub mod WellFormed
+pub use Rattle.pg_num.specs as pg_num

@@ -27,6 +27,7 @@ pub use ids::{BlockNo, InstrId, ThreadNo};
 pub use instr::{Instr, Op};
 pub use library_call::LibraryCall;
 pub use lists::{Bytes, Cases, Incomings, Indices, Scalars, Values};
+pub use pg_num;
 pub use program::{Edge, Program};
 pub use request::{Request, TrapName};
 pub use value::{Index, Scalar, Scale, Value};

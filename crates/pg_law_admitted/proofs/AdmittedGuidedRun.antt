@@ -36,10 +36,10 @@ use Rattle.pg_slice_rules.specs.Freeable.{Regions}
 use Rattle.pg_slice_rules.specs.Known.{Taken, thread_of}
 use Rattle.pg_slice_rules.specs.Moments.{thread_in}
 use Rattle.pg_law_order.specs.Good.{IsGoodRun, replies_of}
-use Rattle.pg_law_runs.specs.Cuts.{CanRun, IsAtCut, IsFrontOf, IsOrderedAlong, IsOrderedFull}
-use Rattle.pg_law_runs.proofs.MaximalRuns.{drop_end}
-use Rattle.pg_law_runs.proofs.PermittedRuns as law
-use Rattle.pg_law_runs.specs.Answered.{Answered, AreFirst, answers}
+use Rattle.pg_law_plan.specs.pg_law_runs.Cuts.{CanRun, IsAtCut, IsFrontOf, IsOrderedAlong, IsOrderedFull}
+use Rattle.pg_law_plan.proofs.of_pg_law_runs.MaximalRuns.{drop_end}
+use Rattle.pg_law_plan.proofs.of_pg_law_runs.PermittedRuns as law
+use Rattle.pg_law_plan.specs.pg_law_runs.Answered.{Answered, AreFirst, answers}
 use Rattle.pg_law_plan.specs.Fits.{IsAlikeFor}
 use Rattle.pg_law_plan.specs.Likes.{IsCellLike, MovedThread, StandLike, like}
 use Rattle.pg_law_plan.specs.Lists.{Has}

@@ -9,7 +9,7 @@ use Rattle.pg_slice_rules.specs.Closed.{IsClosed, admits}
 use Rattle.pg_slice_rules.specs.Known.{Taken}
 use Rattle.pg_slice_rules.specs.Moments.{thread_in}
 use Rattle.pg_law_effects.specs.Reached.{IsReached}
-use Rattle.pg_law_runs.specs.Deeds.{owners_of}
+use Rattle.pg_law_plan.specs.pg_law_runs.Deeds.{owners_of}
 use Rattle.pg_law_plan.specs.Fits.{IsAlikeFor}
 use Rattle.pg_law_plan.specs.Lists.{Has}
 use Rattle.pg_law_plan.specs.Moves.{LooksTo, RunState, moved}

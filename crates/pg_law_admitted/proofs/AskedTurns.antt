@@ -25,8 +25,8 @@ use Rattle.pg_run.specs.MachineStep.{happening_of, is_ended, trap_of, turn_of, t
 use Rattle.pg_run.specs.State.{State, action_in, next_of}
 use Rattle.pg_law_effects.specs.Views.{begun_in, local_at}
 use Rattle.pg_law_effects.proofs.ThreadLimits.{IsAllowed}
-use Rattle.pg_law_runs.specs.Deeds.{owners_of}
-use Rattle.pg_law_runs.specs.Answered.{Answered, answers}
+use Rattle.pg_law_plan.specs.pg_law_runs.Deeds.{owners_of}
+use Rattle.pg_law_plan.specs.pg_law_runs.Answered.{Answered, answers}
 use Rattle.pg_law_plan.specs.Moves.{RunDeed}
 use Rattle.pg_law_plan.proofs.SameReplies.{answered_turns}
 

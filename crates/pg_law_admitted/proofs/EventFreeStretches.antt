@@ -24,7 +24,7 @@ use Rattle.pg_law_effects.specs.Reached.{IsReached}
 use Rattle.pg_law_effects.specs.Views.{cell_at, cell_written, local_at, objects_of, objects_with}
 use Rattle.pg_law_effects.proofs.ReachedStates.{reached_step}
 use Rattle.pg_law_instances.specs.Stays.{AreOf}
-use Rattle.pg_law_runs.proofs.ToldCells.{IsTold, told}
+use Rattle.pg_law_plan.proofs.of_pg_law_runs.ToldCells.{IsTold, told}
 use Rattle.pg_law_plan.specs.Likes.{MovedThread}
 use Rattle.pg_law_plan.specs.Moves.{moved}
 use Rattle.pg_law_plan.proofs.StepsAreMoves.{moved_by, moves_lead}
@@ -123,7 +123,7 @@ module _ (gated : List InstrId) (p : NumberedProgram) (input : List ℤ) where
         → is_some (cell_written (effect_of p input s x.thread.0) b) ≡ false
     unwritten counts s x h quiet b w = go (cases_lt b MEMORY_BYTES)
       where
-        k : IsTold x (Rattle.pg_law_runs.specs.Deeds.deed_of p input s counts x)
+        k : IsTold x (Rattle.pg_law_plan.specs.pg_law_runs.Deeds.deed_of p input s counts x)
         k = told gated p input s counts x h
 
         go : (b < MEMORY_BYTES) ⊎ (MEMORY_BYTES ≤ b) → is_some (cell_written (effect_of p input s x.thread.0) b) ≡ false

@@ -23,7 +23,7 @@ use Rattle.pg_slice_rules.specs.Extents.{Extent, begun, edge_by, edge_in, ends, 
 use Rattle.pg_slice_rules.specs.Freeable.{FreeRegion}
 use Rattle.pg_slice_rules.specs.Known.{Reference, SymbolicState, Taken, SymbolicThread, after_step, edge_of, live_after, no_thread, region_of, thread_of, with_extents}
 use Rattle.pg_slice_rules.specs.Moments.{Moment, instr_in, registers_in, thread_in}
-use Rattle.pg_law_least.specs.Keeps.{AreStacked}
+use Rattle.pg_law_instances.specs.pg_law_least.Keeps.{AreStacked}
 use Rattle.pg_law_instances.specs.Inside.{Instance, edge_at as edge_from, edge_taken}
 use Rattle.pg_law_instances.specs.Stays.{TellsWithin}
 use Rattle.pg_law_plan.proofs.FreeBranchEffects.{extents_in}

@@ -36,7 +36,7 @@ use Rattle.pg_law_effects.specs.Reached.{IsReached}
 use Rattle.pg_law_effects.specs.Views.{begun_in, local_at}
 use Rattle.pg_law_effects.proofs.ReachedStates.{present}
 use Rattle.pg_law_effects.proofs.StepViews.{leads_to}
-use Rattle.pg_slice_replay.specs.OfRegions.{AreRegions}
+use Rattle.pg_law_instances.specs.pg_slice_replay.OfRegions.{AreRegions}
 use Rattle.pg_law_instances.specs.Free.{instance_of}
 use Rattle.pg_law_instances.specs.Inside.{Instance, IsBottom, IsInside, Joins, Stands, edge_at as edge_from, next_edge, region_set}
 use Rattle.pg_law_instances.specs.Stays.{CanStepInside, StaysInside}

@@ -37,7 +37,7 @@ use Rattle.pg_law_effects.specs.PermittedSteps.{none_taken}
 use Rattle.pg_law_effects.specs.Reached.{IsReached}
 use Rattle.pg_law_effects.specs.Views.{begun_in, cell_at, is_thread, local_at}
 use Rattle.pg_law_effects.proofs.ReachedStates.{reached_run}
-use Rattle.pg_law_runs.proofs.ToldCells.{told}
+use Rattle.pg_law_plan.proofs.of_pg_law_runs.ToldCells.{told}
 use Rattle.pg_slice_rules.specs.declared.decision.Decision.{Decision}
 use Rattle.pg_slice_rules.specs.declared.decision.Decision.TheVariants.{Pinned}
 use Rattle.pg_slice_rules.specs.Freeable.{FreeAccess, FreeRegion, bounds_of}

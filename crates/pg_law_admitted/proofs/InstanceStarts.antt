@@ -49,9 +49,9 @@ use Rattle.pg_law_instances.proofs.FreeableSteps.{apart_at, at_branch, followed_
 use Rattle.pg_law_instances.proofs.FreeRegions.{Freed, freed}
 use Rattle.pg_law_instances.proofs.JoinLeadsOut.{frames_of}
 use Rattle.pg_law_instances.proofs.PathsOfValues.{follows_root, root_follows}
-use Rattle.pg_slice_replay.specs.OfRegions.{AreRegions}
-use Rattle.pg_law_runs.specs.Deeds.{local_event}
-use Rattle.pg_law_runs.proofs.DeedDependence.{event_seen, some_turn}
+use Rattle.pg_law_instances.specs.pg_slice_replay.OfRegions.{AreRegions}
+use Rattle.pg_law_plan.specs.pg_law_runs.Deeds.{local_event}
+use Rattle.pg_law_plan.proofs.of_pg_law_runs.DeedDependence.{event_seen, some_turn}
 use Rattle.pg_law_plan.specs.Likes.{AreLike, IsCellLike, IsLike, StandLike}
 use Rattle.pg_law_plan.proofs.LikeOperands.{valued_like}
 use Rattle.pg_law_plan.specs.Units.{PlanUnit, ReferenceRun, cell_known, is_event_at, is_instance, reads_byte, reads_cell, reference_of, standing_of, word_read}

@@ -16,7 +16,7 @@ use Rattle.pg_run.specs.Permitted.{IsPermitted, has_turn, turns_left}
 use Rattle.pg_run.specs.State.{State}
 use Rattle.pg_law_effects.specs.PermittedSteps.{none_taken}
 use Rattle.pg_law_effects.specs.Views.{local_at}
-use Rattle.pg_law_runs.specs.Cuts.{IsOrderedAlong}
+use Rattle.pg_law_plan.specs.pg_law_runs.Cuts.{IsOrderedAlong}
 use Rattle.pg_slice_rules.specs.Known.{Taken, thread_of}
 use Rattle.pg_law_plan.specs.Likes.{StandLike, like}
 use Rattle.pg_law_plan.specs.Lists.{Has}

@@ -9,7 +9,7 @@ use Rattle.pg_run_thread.specs.LocalState.{Frame, LocalState}
 use Rattle.pg_slice_rules.specs.Known.{Taken, thread_of}
 use Rattle.pg_slice_rules.specs.SymbolicValues.{Known, OnInput, Symbolic}
 use Rattle.pg_law_effects.specs.Views.{local_at}
-use Rattle.pg_law_runs.specs.Cuts.{IsFrontOf}
+use Rattle.pg_law_plan.specs.pg_law_runs.Cuts.{IsFrontOf}
 use Rattle.pg_law_plan.specs.Likes.{AreCallsLike, AreLike, IsLike, StandLike}
 use Rattle.pg_law_plan.specs.Units.{ReferenceRun, standing_of, units_of}
 use Rattle.pg_law_plan.proofs.SameReplies.{map_join}

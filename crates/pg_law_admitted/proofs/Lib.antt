@@ -29,3 +29,4 @@ pub mod TurnOwners
 pub mod GuidedRunsUnbroken
 pub mod KnownValues
 pub mod InstanceFits
+pub use Rattle.pg_law_order.proofs as of_pg_law_order

@@ -12,7 +12,7 @@ use Rattle.pg_run_trace.specs.declared.step.StepKind.{StepKind}
 use Rattle.pg_run_trace.specs.declared.turn.Turn.{Turn}
 use Rattle.pg_run_trace.specs.Steps.{happening_in}
 use Rattle.pg_run.specs.Permitted.{has_turn}
-use Rattle.pg_law_runs.specs.Deeds.{owners_of}
+use Rattle.pg_law_plan.specs.pg_law_runs.Deeds.{owners_of}
 use Rattle.pg_slice_rules.specs.Closed.{IsClosed, admits}
 use Rattle.pg_slice_rules.specs.Known.{Taken}
 use Rattle.pg_slice_rules.specs.Moments.{thread_in}

@@ -25,7 +25,7 @@ use Rattle.pg_slice_rules.specs.Known.{Taken}
 use Rattle.pg_slice_rules.specs.Moments.{thread_in}
 use Rattle.pg_law_effects.specs.PermittedSteps.{none_taken}
 use Rattle.pg_law_effects.specs.Views.{objects_of}
-use Rattle.pg_law_runs.specs.Deeds.{owners_of}
+use Rattle.pg_law_plan.specs.pg_law_runs.Deeds.{owners_of}
 use Rattle.pg_law_plan.specs.Fits.{IsAlikeFor, IsRemembered, PlanRemembers, StartsAreFresh, thread_before}
 use Rattle.pg_law_plan.specs.Likes.{IsCellLike, IsThreadLike, PlanThread, like}
 use Rattle.pg_law_plan.specs.Lists.{Has}

@@ -31,7 +31,7 @@ use Rattle.pg_law_instances.specs.Inside.{Instance, IsAtBranch, Stands}
 use Rattle.pg_law_instances.specs.Leads.{KeepsCells}
 use Rattle.pg_law_instances.specs.Stays.{IsWithinExtent}
 use Rattle.pg_law_instances.proofs.StepsInside.{GoesFrom, Proceeds, branch_proceeds, inside_proceeds}
-use Rattle.pg_law_runs.specs.Deeds.{is_event_at, local_event}
+use Rattle.pg_law_plan.specs.pg_law_runs.Deeds.{is_event_at, local_event}
 
 -- ---- an instruction that is no phi has an action
 

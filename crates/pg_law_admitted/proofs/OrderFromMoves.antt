@@ -9,7 +9,7 @@ use Rattle.pg_law_threads.specs.Steps.{Conflict, EachPair}
 use Rattle.pg_law_threads.proofs.DoneLists.{all_join, all_map}
 use Rattle.pg_run_trace.specs.declared.step.Step.{Step}
 use Rattle.pg_run_trace.specs.Races.{recorded}
-use Rattle.pg_law_runs.specs.Answered.{Answered, answered, answers}
+use Rattle.pg_law_plan.specs.pg_law_runs.Answered.{Answered, answered, answers}
 use Rattle.pg_law_plan.specs.Moves.{RunDeed}
 use Rattle.pg_law_plan.proofs.SameReplies.{run_answer}
 use Rattle.pg_law_admitted.specs.Falls.{BeginWithMove, FallInto, IsStepOf}

@@ -35,7 +35,7 @@ use Rattle.pg_law_instances.specs.Inside.{registers_by}
 use Rattle.pg_law_instances.proofs.FreeableSteps.{followed_at}
 use Rattle.pg_law_instances.proofs.FreeRegions.{source_of}
 use Rattle.pg_law_instances.proofs.PathsOfValues.{follows_root, root_follows}
-use Rattle.pg_slice_replay.specs.OfRegions.{AreRegions}
+use Rattle.pg_law_instances.specs.pg_slice_replay.OfRegions.{AreRegions}
 use Rattle.pg_law_plan.specs.Units.{PlanUnit, ReferenceRun, access_touch, is_instance, is_read_in, reads_cell, units_of, word_read}
 use Rattle.pg_law_plan.specs.Order.{IsOrderedRun}
 use Rattle.pg_law_plan.proofs.EachUnit.{IsUnit, all_units}

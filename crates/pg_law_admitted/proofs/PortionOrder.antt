@@ -4,7 +4,7 @@ use Rattle.std.specs.List.{AllByRecursion as AllOf}
 use Rattle.pg_slice_rules.specs.Known.{Taken}
 use Rattle.pg_law_effects.specs.PermittedSteps.{none_taken, one_more}
 use Rattle.pg_law_threads.proofs.DoneLists.{all_join}
-use Rattle.pg_law_runs.specs.Cuts.{IsFrontOf}
+use Rattle.pg_law_plan.specs.pg_law_runs.Cuts.{IsFrontOf}
 use Rattle.pg_law_plan.specs.Lists.{Has}
 use Rattle.pg_law_plan.specs.Units.{PlanUnit, ReferenceRun, units_of}
 use Rattle.pg_law_plan.proofs.ListMembers.{all_has, has_all, has_left}

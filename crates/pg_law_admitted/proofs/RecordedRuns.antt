@@ -18,9 +18,9 @@ use Rattle.pg_run.proofs.GuidedPermitted.{guided_permitted}
 use Rattle.pg_slice_rules.specs.Freeable.{Regions}
 use Rattle.pg_slice_rules.specs.Known.{Seen, Taken, seen_in}
 use Rattle.pg_law_instances.proofs.ReferenceExtents.{extents_keep}
-use Rattle.pg_law_least.specs.Laws.{IsPlain}
-use Rattle.pg_law_least.proofs.EachStep.{plain_in}
-use Rattle.pg_law_runs.specs.Deeds.{owners_of}
+use Rattle.pg_law_instances.specs.pg_law_least.Laws.{IsPlain}
+use Rattle.pg_law_instances.proofs.of_pg_law_least.EachStep.{plain_in}
+use Rattle.pg_law_plan.specs.pg_law_runs.Deeds.{owners_of}
 use Rattle.pg_law_plan.specs.Order.{IsOrderedRun}
 use Rattle.pg_law_plan.specs.Units.{ExtentsArePlain, ReferenceRun, is_event_at, reference_of}
 use Rattle.pg_law_order.proofs.ExitsHaveAllTurns.{Exited, all_done, all_turns, exited, owners_events}

@@ -29,13 +29,13 @@ use Rattle.pg_slice_rules.specs.Known.{Reference, SymbolicState, Seen, Taken, af
 use Rattle.pg_slice_rules.specs.Moments.{Moment, calls_of, instr_in, moments_from, thread_in}
 use Rattle.pg_slice_rules.specs.declared.decision.Decision.{Decision}
 use Rattle.pg_slice_rules.specs.declared.decision.Decision.TheVariants.{Exact, Pinned}
-use Rattle.pg_law_least.specs.Keeps.{AreStacked, every, steps_of}
-use Rattle.pg_law_least.specs.Laws.{SameExtents}
-use Rattle.pg_law_least.proofs.EachStep.{plain_in, same_in}
+use Rattle.pg_law_instances.specs.pg_law_least.Keeps.{AreStacked, every, steps_of}
+use Rattle.pg_law_instances.specs.pg_law_least.Laws.{SameExtents}
+use Rattle.pg_law_instances.proofs.of_pg_law_least.EachStep.{plain_in, same_in}
 use Rattle.pg_law_effects.specs.PermittedSteps.{none_taken, one_more}
 use Rattle.pg_law_effects.specs.Views.{local_at}
 use Rattle.pg_law_effects.proofs.ReachedStates.{reached_first}
-use Rattle.pg_slice_replay.specs.OfRegions.{AreRegions}
+use Rattle.pg_law_instances.specs.pg_slice_replay.OfRegions.{AreRegions}
 use Rattle.pg_law_instances.specs.Free.{instance_of}
 use Rattle.pg_law_instances.specs.Inside.{IsAtJoin, IsInside, Joins}
 use Rattle.pg_law_instances.specs.References.{IsReferenceRun}

@@ -21,7 +21,7 @@ use Rattle.pg_law_effects.specs.Reached.{IsReached}
 use Rattle.pg_law_effects.specs.Views.{Objects}
 use Rattle.pg_law_effects.proofs.PermittedStepByStep.{permitted_is}
 use Rattle.pg_law_effects.proofs.ReachedStates.{reached_first, reached_run}
-use Rattle.pg_law_runs.specs.Answered.{Answered, answers}
+use Rattle.pg_law_plan.specs.pg_law_runs.Answered.{Answered, answers}
 use Rattle.pg_law_plan.specs.Likes.{like}
 use Rattle.pg_law_plan.specs.Moves.{RunDeed, RunState, moved}
 use Rattle.pg_law_plan.specs.Units.{PlanDeed, ReferenceRun, plan_of, plan_start, turns_of}

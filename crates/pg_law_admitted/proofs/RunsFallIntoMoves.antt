@@ -37,10 +37,10 @@ use Rattle.pg_law_effects.proofs.ReachedStates.{reached_run, reached_step}
 use Rattle.pg_law_instances.specs.Inside.{Instance, IsAtJoin}
 use Rattle.pg_law_instances.specs.Stays.{AreOf, IsWithinExtent}
 use Rattle.pg_law_instances.proofs.JoinLeadsOut.{frames_of}
-use Rattle.pg_law_runs.specs.Deeds.{owners_of}
-use Rattle.pg_law_runs.proofs.RunsAsDeeds.{left_behind}
-use Rattle.pg_law_runs.proofs.DeedDependence.{some_turn}
-use Rattle.pg_law_runs.proofs.ToldCells.{IsTold, told}
+use Rattle.pg_law_plan.specs.pg_law_runs.Deeds.{owners_of}
+use Rattle.pg_law_plan.proofs.of_pg_law_runs.RunsAsDeeds.{left_behind}
+use Rattle.pg_law_plan.proofs.of_pg_law_runs.DeedDependence.{some_turn}
+use Rattle.pg_law_plan.proofs.of_pg_law_runs.ToldCells.{IsTold, told}
 use Rattle.pg_law_plan.specs.Fits.{IsAlikeFor, PlanRemembers, StartsAreFresh}
 use Rattle.pg_law_plan.specs.Likes.{MovedThread, like}
 use Rattle.pg_law_plan.specs.Lists.{Has}
@@ -162,7 +162,7 @@ module _ (r : ReferenceRun) (d : Taken) (input : List ℤ) (sums : ℕ → Optio
           (left_behind (event_of x) g turns ∙ ap (λ (b : Bool). drop (done_after b g) turns)
           (sym (is_some_if (is_some (event_of x)) (objects_with (effect_of r.program input s x.thread.0).thread (effect_of r.program input s x.thread.0).request (objects_of s))))) permitted.1
 
-      told_here : IsTold x (Rattle.pg_law_runs.specs.Deeds.deed_of r.program input s c x)
+      told_here : IsTold x (Rattle.pg_law_plan.specs.pg_law_runs.Deeds.deed_of r.program input s c x)
       told_here = told r.gated r.program input s c x permitted.0.takes
 
       begin_single : BeginWithMove (deed_moved r.program input s c x) (x ∷ xs)

@@ -43,11 +43,11 @@ use Rattle.pg_law_effects.proofs.RunsByThreads.{is_going}
 use Rattle.pg_law_effects.proofs.ThreadLimits.{did_allowed}
 use Rattle.pg_law_effects.proofs.ToldByStep.{event_is}
 use Rattle.pg_law_instances.proofs.JoinLeadsOut.{frames_of}
-use Rattle.pg_law_runs.specs.Deeds.{local_event, local_goes, local_granted, owners_of}
-use Rattle.pg_law_runs.proofs.DeedDependence.{event_seen, get_behind, goes_by, some_turn}
-use Rattle.pg_law_runs.proofs.MaximalRuns.{not_ended}
-use Rattle.pg_law_runs.proofs.StepRules.{Steps, looks, none_granted, steps_by}
-use Rattle.pg_law_runs.specs.Answered.{Answered, answers}
+use Rattle.pg_law_plan.specs.pg_law_runs.Deeds.{local_event, local_goes, local_granted, owners_of}
+use Rattle.pg_law_plan.proofs.of_pg_law_runs.DeedDependence.{event_seen, get_behind, goes_by, some_turn}
+use Rattle.pg_law_plan.proofs.of_pg_law_runs.MaximalRuns.{not_ended}
+use Rattle.pg_law_plan.proofs.of_pg_law_runs.StepRules.{Steps, looks, none_granted, steps_by}
+use Rattle.pg_law_plan.specs.pg_law_runs.Answered.{Answered, answers}
 use Rattle.pg_law_plan.specs.Fits.{IsAlikeFor, IsRemembered, thread_before}
 use Rattle.pg_law_plan.specs.Likes.{IsCellLike, IsThreadLike, MovedThread, PlanThread, StandLike, like}
 use Rattle.pg_law_plan.specs.Lists.{Has}
@@ -73,7 +73,7 @@ use Rattle.pg_law_plan.proofs.SameReplies.{answered_turns, map_join, plan_answer
 use Rattle.pg_law_plan.proofs.UnitsArePlan.{is_plan}
 use Rattle.pg_law_plan.proofs.ThreadStartFits.{start_fits}
 use Rattle.pg_law_plan.proofs.StepFits.{good_at, unit_at, words_at}
-use Rattle.pg_law_runs.proofs.StrayedOwners.{IsStuck, StuckAt, guided_strays}
+use Rattle.pg_law_plan.proofs.of_pg_law_runs.StrayedOwners.{IsStuck, StuckAt, guided_strays}
 use Rattle.pg_law_plan.proofs.UnitTurns.{is_some_if}
 use Rattle.pg_law_admitted.specs.Free.{IsAnyMove, begun_instance}
 use Rattle.pg_law_admitted.specs.Unbroken.{IsUnbroken}

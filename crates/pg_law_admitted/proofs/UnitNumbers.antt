@@ -8,7 +8,7 @@ use Rattle.pg_law_threads.proofs.DoneLists.{cons_head, cons_tail}
 use Rattle.pg_run.specs.State.{State, initial}
 use Rattle.pg_slice_rules.specs.Known.{Taken}
 use Rattle.pg_law_effects.specs.PermittedSteps.{none_taken, one_more}
-use Rattle.pg_law_runs.specs.Cuts.{IsFrontOf}
+use Rattle.pg_law_plan.specs.pg_law_runs.Cuts.{IsFrontOf}
 use Rattle.pg_law_plan.specs.Lists.{Has}
 use Rattle.pg_law_plan.specs.Units.{Met, PlanUnit, ReferenceRun, last_from, met_in, unit_of, units_from, units_of}
 use Rattle.pg_law_plan.proofs.KnownBeforeUnits.{no_if, yes_if}

@@ -22,7 +22,7 @@ use Rattle.pg_law_instances.specs.Free.{instance_of}
 use Rattle.pg_law_instances.specs.Inside.{Instance, IsAtJoin}
 use Rattle.pg_law_instances.specs.Instances.{ChangesLittle}
 use Rattle.pg_law_instances.specs.Stays.{AreOf, CanStepInside, TellsWithin}
-use Rattle.pg_slice_replay.specs.OfRegions.{may_set}
+use Rattle.pg_law_instances.specs.pg_slice_replay.OfRegions.{may_set}
 use Rattle.pg_law_plan.specs.Lists.{Has}
 use Rattle.pg_law_plan.specs.Likes.{StandLike}
 use Rattle.pg_law_plan.specs.Moves.{IsMove, LooksTo, RunDeed, RunState, moved}

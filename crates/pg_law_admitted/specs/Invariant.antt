@@ -16,7 +16,7 @@ use Rattle.pg_slice_rules.specs.Known.{Taken, thread_of}
 use Rattle.pg_slice_rules.specs.Moments.{thread_in}
 use Rattle.pg_law_effects.specs.Views.{cell_at, local_at, objects_of}
 use Rattle.pg_law_instances.specs.Stays.{IsWithinExtent, TellsWithin}
-use Rattle.pg_law_runs.specs.Cuts.{IsFrontOf, IsOrderedAlong}
+use Rattle.pg_law_plan.specs.pg_law_runs.Cuts.{IsFrontOf, IsOrderedAlong}
 use Rattle.pg_law_plan.specs.Likes.{IsCellLike, IsToldLike, StandLike, like}
 use Rattle.pg_law_plan.specs.Lists.{Has}
 use Rattle.pg_law_plan.specs.Moves.{RunState}

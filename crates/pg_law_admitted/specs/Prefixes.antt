@@ -13,7 +13,7 @@ use Rattle.pg_run.specs.State.{State}
 use Rattle.pg_slice_rules.specs.Known.{Taken, thread_of}
 use Rattle.pg_slice_rules.specs.SymbolicValues.{Known, OnInput, Symbolic}
 use Rattle.pg_law_effects.specs.Views.{local_at}
-use Rattle.pg_law_runs.specs.Cuts.{IsFrontOf}
+use Rattle.pg_law_plan.specs.pg_law_runs.Cuts.{IsFrontOf}
 use Rattle.pg_law_plan.specs.Units.{PlanUnit, ReferenceRun, is_instance, is_placed_access, reads_cell, units_of, writes_cell}
 use Rattle.pg_law_admitted.specs.Invariant.{IsInInstance, Portion, StandsAtNext, StaysInInstance, owner, steps_in, units_by}
 

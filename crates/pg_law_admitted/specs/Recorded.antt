@@ -4,7 +4,7 @@ use Rattle.pg_ir.specs.Program.{NumberedProgram}
 use Rattle.pg_region_accesses.specs.Accesses.{RootedList}
 use Rattle.pg_run_trace.specs.declared.schedule.Schedule.{Schedule}
 use Rattle.pg_run_trace.specs.declared.step.Step.{Step}
-use Rattle.pg_law_runs.specs.Cuts.{IsOrderedAlong}
+use Rattle.pg_law_plan.specs.pg_law_runs.Cuts.{IsOrderedAlong}
 use Rattle.pg_slice_rules.specs.Closed.{IsClosed, admits}
 use Rattle.pg_slice_rules.specs.Freeable.{Regions}
 use Rattle.pg_slice_rules.specs.Known.{Taken}

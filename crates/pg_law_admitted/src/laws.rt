@@ -21,7 +21,7 @@ ghost use Rattle.pg_slice_rules.specs.Known.{Taken};
 ghost use Rattle.pg_slice_rules.specs.Moments.{thread_in};
 ghost use Rattle.pg_law_instances.specs.References.{IsReferenceRun};
 ghost use Rattle.pg_law_order.specs.Good.{IsGoodRun, replies_of};
-ghost use Rattle.pg_law_runs.specs.Cuts.{IsAtCut, IsFrontOf, IsOrderedAlong, IsOrderedFull};
+ghost use Rattle.pg_law_plan.specs.pg_law_runs.Cuts.{IsAtCut, IsFrontOf, IsOrderedAlong, IsOrderedFull};
 ghost use Rattle.pg_law_plan.specs.Fits.{IsAlikeFor};
 ghost use Rattle.pg_law_plan.specs.Likes.{like};
 ghost use Rattle.pg_law_plan.specs.Lists.{Has};

@@ -3,3 +3,5 @@
 
 pub mod laws;
 pub mod prefixes;
+
+pub use pg_law_order;

@@ -12,7 +12,7 @@ ghost use Rattle.pg_run.specs.Runs.{IsRun};
 ghost use Rattle.pg_run.specs.State.{State, initial};
 ghost use Rattle.pg_slice_rules.specs.Freeable.{Regions};
 ghost use Rattle.pg_slice_rules.specs.Known.{Taken};
-ghost use Rattle.pg_law_runs.specs.Cuts.{IsOrderedAlong};
+ghost use Rattle.pg_law_plan.specs.pg_law_runs.Cuts.{IsOrderedAlong};
 ghost use Rattle.pg_law_plan.specs.Units.{ReferenceRun};
 ghost use Rattle.pg_law_admitted.specs.Invariant.{Invariant};
 ghost use Rattle.pg_law_admitted.specs.Prefixes.{KeepsMemory, KeepsRegions, KeepsValues};

@@ -13,10 +13,10 @@ use Rattle.pg_run_thread.specs.declared.action.Action.{Action}
 use Rattle.pg_run_thread.specs.declared.action.Action.TheVariants as actions
 use Rattle.pg_run_thread.specs.LocalState.{fresh}
 use Rattle.pg_run.specs.State.{State}
-use Rattle.pg_law_effects.specs.Effect.{request_effect, write_of}
-use Rattle.pg_law_effects.specs.Meets.{is_in}
-use Rattle.pg_law_effects.specs.Views.{cell_at, word_in as effect_word}
-use Rattle.pg_law_effects.proofs.ReachedStates.{fresh_number}
+use Rattle.pg_law_runs.specs.pg_law_effects.Effect.{request_effect, write_of}
+use Rattle.pg_law_runs.specs.pg_law_effects.Meets.{is_in}
+use Rattle.pg_law_runs.specs.pg_law_effects.Views.{cell_at, word_in as effect_word}
+use Rattle.pg_law_runs.proofs.of_pg_law_effects.ReachedStates.{fresh_number}
 use Rattle.pg_law_course.specs.Steps.{number_in, word_by, word_in, write_by}
 
 -- ---- numbers and words

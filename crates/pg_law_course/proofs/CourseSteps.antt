@@ -22,10 +22,10 @@ use Rattle.pg_run_trace.specs.Steps.{access_of}
 use Rattle.pg_run.specs.State.{State, initial}
 use Rattle.pg_run.specs.Runs.{event_of, events}
 use Rattle.pg_run.proofs.StepsBegin.{ready_made}
-use Rattle.pg_law_effects.specs.PermittedSteps.{IsDue, none_taken}
-use Rattle.pg_law_effects.specs.Reached.{IsReached}
-use Rattle.pg_law_effects.specs.Views.{begun_in, cell_at, local_at}
-use Rattle.pg_law_effects.proofs.ReachedStates.{present, reached_first}
+use Rattle.pg_law_runs.specs.pg_law_effects.PermittedSteps.{IsDue, none_taken}
+use Rattle.pg_law_runs.specs.pg_law_effects.Reached.{IsReached}
+use Rattle.pg_law_runs.specs.pg_law_effects.Views.{begun_in, cell_at, local_at}
+use Rattle.pg_law_runs.proofs.of_pg_law_effects.ReachedStates.{present, reached_first}
 use Rattle.pg_law_runs.specs.Cuts.{CanRun, IsFrontOf}
 use Rattle.pg_law_runs.specs.Deeds.{Did, Thread, is_event_at, owners_of}
 use Rattle.pg_law_runs.proofs.DeedDependence.{deed_event}

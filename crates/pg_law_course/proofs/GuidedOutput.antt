@@ -12,7 +12,7 @@ use Rattle.pg_run.specs.Guided.{GuidedRun, Walk, all_left, ended_at, guided, gui
 use Rattle.pg_run.specs.Runs.{events}
 use Rattle.pg_run.specs.State.{State, initial}
 use Rattle.pg_run.proofs.GuidedRuns.{guided_is}
-use Rattle.pg_law_effects.specs.PermittedSteps.{none_taken}
+use Rattle.pg_law_runs.specs.pg_law_effects.PermittedSteps.{none_taken}
 use Rattle.pg_law_runs.specs.Cuts.{CanRun}
 use Rattle.pg_law_runs.proofs.RunsAsDeeds.{turns_are}
 use Rattle.pg_law_order.specs.Good.{IsGoodRun, run_along}

@@ -17,13 +17,13 @@ use Rattle.pg_run_trace.specs.declared.step.Step.{Step}
 use Rattle.pg_run.specs.State.{State, initial, next_of}
 use Rattle.pg_run.specs.Runs.{IsRun, Takes}
 use Rattle.pg_run.proofs.StepsBegin.{ready_made}
-use Rattle.pg_law_effects.specs.Effect as machine
-use Rattle.pg_law_effects.specs.Effect.{effect_of, request_effect, write_of}
-use Rattle.pg_law_effects.specs.Meets.{byte_in}
-use Rattle.pg_law_effects.specs.PermittedSteps.{none_taken, one_more}
-use Rattle.pg_law_effects.specs.Views.{cell_at, word_in as effect_word}
-use Rattle.pg_law_effects.proofs.ReachedStates.{fresh_number}
-use Rattle.pg_law_effects.proofs.StepsApart.{left_by}
+use Rattle.pg_law_runs.specs.pg_law_effects.Effect as machine
+use Rattle.pg_law_runs.specs.pg_law_effects.Effect.{effect_of, request_effect, write_of}
+use Rattle.pg_law_runs.specs.pg_law_effects.Meets.{byte_in}
+use Rattle.pg_law_runs.specs.pg_law_effects.PermittedSteps.{none_taken, one_more}
+use Rattle.pg_law_runs.specs.pg_law_effects.Views.{cell_at, word_in as effect_word}
+use Rattle.pg_law_runs.proofs.of_pg_law_effects.ReachedStates.{fresh_number}
+use Rattle.pg_law_runs.proofs.of_pg_law_effects.StepsApart.{left_by}
 use Rattle.pg_law_runs.specs.Cuts.{CanRun}
 use Rattle.pg_law_runs.specs.Deeds.{Did, Seen, deed_of, deeds_of}
 use Rattle.pg_law_runs.proofs.RunsAsDeeds.{flipped}

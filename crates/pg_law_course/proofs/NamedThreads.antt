@@ -14,7 +14,7 @@ use Rattle.pg_run_thread.specs.declared.action.Action.TheVariants as actions
 use Rattle.pg_run.specs.Machine.{IsMachine}
 use Rattle.pg_run.specs.State.{State}
 use Rattle.pg_run.proofs.Steps.{room}
-use Rattle.pg_law_effects.proofs.ThreadLimits.{IsAllowed}
+use Rattle.pg_law_runs.proofs.of_pg_law_effects.ThreadLimits.{IsAllowed}
 use Rattle.pg_law_course.specs.Steps.{thread_named}
 use Rattle.pg_law_course.proofs.ActionCells.{Makes}
 

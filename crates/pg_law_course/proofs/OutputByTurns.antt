@@ -20,7 +20,7 @@ use Rattle.pg_run_trace.specs.Steps.{access_kind, event_of, events, happening_in
 use Rattle.pg_run.specs.State.{initial}
 use Rattle.pg_run.specs.Permitted.{turns_left}
 use Rattle.pg_run.proofs.GuidedRuns.{same_as_itself}
-use Rattle.pg_law_effects.specs.PermittedSteps.{none_taken}
+use Rattle.pg_law_runs.specs.pg_law_effects.PermittedSteps.{none_taken}
 use Rattle.pg_law_runs.specs.Cuts.{CanRun, steps_by}
 use Rattle.pg_law_runs.specs.Deeds.{Did}
 use Rattle.pg_law_runs.proofs.DeedLists.{all_tell, steps_are, told_is}

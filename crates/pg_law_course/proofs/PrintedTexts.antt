@@ -23,9 +23,9 @@ use Rattle.pg_run.specs.State.{State, instr_of, next_of}
 use Rattle.pg_run.specs.Runs.{IsRun, Takes}
 use Rattle.pg_run.specs.Texts.{printed_by}
 use Rattle.pg_run.proofs.StepsBegin.{next_is, ready_made}
-use Rattle.pg_law_effects.specs.Effect.{answer_to, effect, effect_of, printed_with, request_effect}
-use Rattle.pg_law_effects.proofs.ReachedStates.{present}
-use Rattle.pg_law_effects.proofs.StepsApart.{left_by}
+use Rattle.pg_law_runs.specs.pg_law_effects.Effect.{answer_to, effect, effect_of, printed_with, request_effect}
+use Rattle.pg_law_runs.proofs.of_pg_law_effects.ReachedStates.{present}
+use Rattle.pg_law_runs.proofs.of_pg_law_effects.StepsApart.{left_by}
 use Rattle.pg_law_runs.proofs.StepRules.{instr_is}
 use Rattle.pg_law_course.specs.Prints.{ends_line, number_printed, number_told, output_of, text_told}
 use Rattle.pg_law_course.proofs.NamedOperands.{printed_char, printed_out}

@@ -24,7 +24,7 @@ use Rattle.pg_run.specs.State.{State}
 use Rattle.pg_law_runs.specs.Cuts.{IsFrontOf}
 use Rattle.pg_law_order.specs.Good.{replies_of}
 use Rattle.pg_law_order.proofs.RepliesOfSteps.{no_reply}
-use Rattle.pg_law_effects.specs.Views.{cell_at}
+use Rattle.pg_law_runs.specs.pg_law_effects.Views.{cell_at}
 use Rattle.pg_law_course.specs.Steps.{answer_by}
 use Rattle.pg_law_course.proofs.ActionCells.{word_same}
 use Rattle.pg_law_course.proofs.RepliesSuffice.{resumes}

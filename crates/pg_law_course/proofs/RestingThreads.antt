@@ -31,13 +31,13 @@ use Rattle.pg_run.specs.Permitted.{IsHeld, IsHeldBy, end_before, full_end, has_s
 use Rattle.pg_run.specs.Runs.{events, steps_of as step_count}
 use Rattle.pg_run.proofs.GuidedRuns.{same_as_itself, same_number}
 use Rattle.pg_run.proofs.StepsBegin.{next_is}
-use Rattle.pg_law_effects.specs.Effect.{effect, effect_of}
-use Rattle.pg_law_effects.specs.PermittedSteps.{none_taken, one_more}
-use Rattle.pg_law_effects.specs.Reached.{IsReached}
-use Rattle.pg_law_effects.specs.Views.{local_at}
-use Rattle.pg_law_effects.proofs.FullGuidedRun.{full_is}
-use Rattle.pg_law_effects.proofs.GuidedWalks.{one_more_step, other_step}
-use Rattle.pg_law_effects.proofs.ReachedStates.{reached_first, reached_run}
+use Rattle.pg_law_runs.specs.pg_law_effects.Effect.{effect, effect_of}
+use Rattle.pg_law_runs.specs.pg_law_effects.PermittedSteps.{none_taken, one_more}
+use Rattle.pg_law_runs.specs.pg_law_effects.Reached.{IsReached}
+use Rattle.pg_law_runs.specs.pg_law_effects.Views.{local_at}
+use Rattle.pg_law_runs.proofs.of_pg_law_effects.FullGuidedRun.{full_is}
+use Rattle.pg_law_runs.proofs.of_pg_law_effects.GuidedWalks.{one_more_step, other_step}
+use Rattle.pg_law_runs.proofs.of_pg_law_effects.ReachedStates.{reached_first, reached_run}
 use Rattle.pg_law_runs.specs.Cuts.{CanRun}
 use Rattle.pg_law_runs.specs.Deeds.{Did, Thread, deed_of, deeds_of, goes_on, is_event_at, owners_of, seen}
 use Rattle.pg_law_runs.proofs.CutRuns as cuts

@@ -14,7 +14,7 @@ use Rattle.pg_run_trace.specs.declared.schedule.Schedule.{Schedule}
 use Rattle.pg_run_trace.specs.Races.{writes_in}
 use Rattle.pg_run_trace.specs.Steps.{access_of}
 use Rattle.pg_run.specs.State.{initial}
-use Rattle.pg_law_effects.specs.PermittedSteps.{none_taken}
+use Rattle.pg_law_runs.specs.pg_law_effects.PermittedSteps.{none_taken}
 use Rattle.pg_law_runs.specs.Cuts.{CanRun}
 use Rattle.pg_law_runs.specs.Deeds.{Did, Seen, owners_of}
 use Rattle.pg_law_runs.proofs.ToldCells.{IsTold, each_told}

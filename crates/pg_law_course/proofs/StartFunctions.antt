@@ -26,14 +26,14 @@ use Rattle.pg_run.specs.Runs.{Takes, event_of}
 use Rattle.pg_run.proofs.GuidedRuns.{same_as_itself, same_number}
 use Rattle.pg_run.proofs.StepsBegin.{next_is, ready_made}
 use Rattle.pg_run.proofs.Threads.{set_length}
-use Rattle.pg_law_effects.specs.Effect.{effect_of, request_effect}
-use Rattle.pg_law_effects.specs.PermittedSteps.{IsDue}
-use Rattle.pg_law_effects.specs.Reached.{IsReached, IsThread}
-use Rattle.pg_law_effects.specs.Views.{LeadsTo, Objects, objects_of, objects_with, start_of}
-use Rattle.pg_law_effects.proofs.ReachedStates.{present}
-use Rattle.pg_law_effects.proofs.StepsApart.{left_by}
-use Rattle.pg_law_effects.proofs.StepViews.{leads_to}
-use Rattle.pg_law_effects.proofs.ToldByStep.{event_is}
+use Rattle.pg_law_runs.specs.pg_law_effects.Effect.{effect_of, request_effect}
+use Rattle.pg_law_runs.specs.pg_law_effects.PermittedSteps.{IsDue}
+use Rattle.pg_law_runs.specs.pg_law_effects.Reached.{IsReached, IsThread}
+use Rattle.pg_law_runs.specs.pg_law_effects.Views.{LeadsTo, Objects, objects_of, objects_with, start_of}
+use Rattle.pg_law_runs.proofs.of_pg_law_effects.ReachedStates.{present}
+use Rattle.pg_law_runs.proofs.of_pg_law_effects.StepsApart.{left_by}
+use Rattle.pg_law_runs.proofs.of_pg_law_effects.StepViews.{leads_to}
+use Rattle.pg_law_runs.proofs.of_pg_law_effects.ToldByStep.{event_is}
 use Rattle.pg_law_runs.proofs.RunsAsDeeds.{next_state}
 use Rattle.pg_law_runs.proofs.StepRules.{instr_is}
 use Rattle.pg_law_course.specs.Threads.{created_by, creates, function_operand, is_create, or_main, start_function}

@@ -27,12 +27,12 @@ use Rattle.pg_run.specs.State.{State, instr_of, next_of}
 use Rattle.pg_run.specs.Runs.{Takes}
 use Rattle.pg_run.proofs.ActionPlaces.{next_named}
 use Rattle.pg_run.proofs.StepsBegin.{next_is, ready_acts, ready_made}
-use Rattle.pg_law_effects.specs.Effect.{Write, answer_to, effect_of, own_after, request_effect, write_of}
-use Rattle.pg_law_effects.specs.Meets.{byte_in, is_in}
-use Rattle.pg_law_effects.specs.Reached.{IsReached}
-use Rattle.pg_law_effects.specs.Views.{cell_at, word_in as effect_word}
-use Rattle.pg_law_effects.proofs.ThreadLimits.{did_allowed}
-use Rattle.pg_law_effects.proofs.ToldByStep.{event_is}
+use Rattle.pg_law_runs.specs.pg_law_effects.Effect.{Write, answer_to, effect_of, own_after, request_effect, write_of}
+use Rattle.pg_law_runs.specs.pg_law_effects.Meets.{byte_in, is_in}
+use Rattle.pg_law_runs.specs.pg_law_effects.Reached.{IsReached}
+use Rattle.pg_law_runs.specs.pg_law_effects.Views.{cell_at, word_in as effect_word}
+use Rattle.pg_law_runs.proofs.of_pg_law_effects.ThreadLimits.{did_allowed}
+use Rattle.pg_law_runs.proofs.of_pg_law_effects.ToldByStep.{event_is}
 use Rattle.pg_law_runs.specs.Deeds.{deed_of, goes_on, is_event_at}
 use Rattle.pg_law_runs.proofs.DeedDependence.{deed_event, goes_by}
 use Rattle.pg_law_runs.proofs.StepRules.{instr_is, turn_is}

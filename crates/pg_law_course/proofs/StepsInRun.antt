@@ -15,10 +15,10 @@ use Rattle.pg_run_trace.specs.declared.turn.Turn.{Turn}
 use Rattle.pg_run_trace.specs.declared.step.Step.{Step}
 use Rattle.pg_run.specs.State.{State}
 use Rattle.pg_run.specs.Runs.{Takes, event_of}
-use Rattle.pg_law_effects.specs.PermittedSteps.{IsDue, one_more, turns_behind}
-use Rattle.pg_law_effects.specs.Reached.{IsReached}
-use Rattle.pg_law_effects.proofs.StepsApart.{left_by}
-use Rattle.pg_law_effects.proofs.ReachedStates.{reached_step}
+use Rattle.pg_law_runs.specs.pg_law_effects.PermittedSteps.{IsDue, one_more, turns_behind}
+use Rattle.pg_law_runs.specs.pg_law_effects.Reached.{IsReached}
+use Rattle.pg_law_runs.proofs.of_pg_law_effects.StepsApart.{left_by}
+use Rattle.pg_law_runs.proofs.of_pg_law_effects.ReachedStates.{reached_step}
 use Rattle.pg_law_runs.specs.Deeds.{Did, Seen, deed_of, deeds_of, seen}
 use Rattle.pg_law_runs.proofs.DeedDependence.{deed_event}
 use Rattle.pg_law_runs.proofs.RunsAsDeeds.{flipped, leads, left_behind, next_state}

@@ -24,8 +24,8 @@ use Rattle.pg_run.specs.Named.{IsNamed, IsRequestNamed}
 use Rattle.pg_run.specs.State.{State, instr_of, next_of}
 use Rattle.pg_run.specs.MachineStep.{Answered, Did, answered, event_told, happening_if, happening_of, instr_told, is_gated, kind_told, library_told, op_told, settled, step, step_told, taken, turn_with}
 use Rattle.pg_run.proofs.ActionPlaces.{place_is}
-use Rattle.pg_law_effects.specs.Effect.{answer_to, write_of}
-use Rattle.pg_law_effects.proofs.StepEffects.{answered_is}
+use Rattle.pg_law_runs.specs.pg_law_effects.Effect.{answer_to, write_of}
+use Rattle.pg_law_runs.proofs.of_pg_law_effects.StepEffects.{answered_is}
 use Rattle.pg_law_runs.specs.Deeds.{is_event_at}
 use Rattle.pg_law_course.specs.Steps.{Accessed, accessed, happening_by, is_shared_action, stored}
 

@@ -8,7 +8,7 @@ use Rattle.pg_law_threads.specs.Standing.{own}
 use Rattle.pg_run_trace.specs.declared.schedule.Schedule.{Schedule}
 use Rattle.pg_run_trace.specs.Steps.{access_of}
 use Rattle.pg_run.specs.State.{initial}
-use Rattle.pg_law_effects.specs.PermittedSteps.{none_taken}
+use Rattle.pg_law_runs.specs.pg_law_effects.PermittedSteps.{none_taken}
 use Rattle.pg_law_runs.specs.Deeds.{Did, Seen, deeds_of, owners_of, seen}
 use Rattle.pg_law_order.specs.Good.{run_along}
 

@@ -20,9 +20,9 @@ use Rattle.pg_run_trace.specs.declared.turn.Turn.{Turn}
 use Rattle.pg_run_trace.specs.declared.turn.TurnKind.TheVariants as kinds
 use Rattle.pg_run_trace.specs.Kinds.{kind_of, object_of}
 use Rattle.pg_run_trace.specs.Steps.{access_of, event_of, range_of}
-use Rattle.pg_law_effects.specs.Effect.{Write, range_read, word_read_by}
-use Rattle.pg_law_effects.specs.Meets.{byte_in, is_in_range}
-use Rattle.pg_law_effects.specs.Views.{is_thread}
+use Rattle.pg_law_runs.specs.pg_law_effects.Effect.{Write, range_read, word_read_by}
+use Rattle.pg_law_runs.specs.pg_law_effects.Meets.{byte_in, is_in_range}
+use Rattle.pg_law_runs.specs.pg_law_effects.Views.{is_thread}
 use Rattle.pg_law_runs.specs.Deeds.{Did, goes_on, is_event_at}
 use Rattle.pg_law_course.specs.Course.{cells_before, next_turn, turns_before}
 use Rattle.pg_law_course.specs.Plan.{is_shared}

@@ -28,8 +28,13 @@ ghost use Rattle.pg_law_course.specs.Rests.{RestsAt, cells_left, exit_end};
 ghost use Rattle.pg_law_course.specs.Steps.{IsStepOf, word_in};
 ghost use Rattle.pg_law_course.specs.Threads.{function_operand};
 
+pub use pg_ir;
 use pg_ir::Request;
+pub use pg_num;
+pub use pg_run;
+pub use pg_run_thread;
 use pg_run_thread::Action;
+pub use pg_run_trace;
 
 /// A thread that has begun goes on with the number that its instruction's register gets as with the answer from which that number
 /// was cut, so that a schedule's reply takes the place of the answer of a pthread call.

@@ -21,15 +21,15 @@ use Rattle.pg_run_trace.specs.declared.step.Access.{Access}
 use Rattle.pg_run_trace.specs.declared.step.Event.{Event}
 use Rattle.pg_run_trace.specs.declared.step.Write.{Write}
 use Rattle.pg_run_trace.specs.Steps.{range_of, write_by}
-use Rattle.pg_slice_rules.specs.declared.decision.Decision.{Decision}
-use Rattle.pg_slice_rules.specs.declared.decision.Decision.TheVariants.{Pinned, Exact}
-use Rattle.pg_slice_rules.specs.Moments.{Moment, thread_in}
-use Rattle.pg_slice_rules.specs.Freeable.{FreeRegion, bounds_of}
-use Rattle.pg_slice_rules.specs.SymbolicValues.{Symbolic, Known, Bounded, Unknown, always, applied, byte_in, is_within, loaded, symbolic_of, unset}
-use Rattle.pg_slice_rules.specs.Extents.{edge_in}
-use Rattle.pg_slice_rules.specs.Known.{SymbolicState, Taken, after_access, after_branch, after_event, after_known, after_op, along_edge, bytes_by, bytes_freed, bytes_stored, caller_target, entered}
-use Rattle.pg_slice_rules.specs.Known.{exit_symbolic, from_input, function_in, has, load_of, operand_at, optional_symbolic, registers_of, result_in, returned_symbolic, set_symbolic, started, thread_of}
-use Rattle.pg_slice_rules.specs.Known.{top_of, under_top, with_top, words_after, written_symbolic}
+use Rattle.pg_law_least.specs.pg_slice_rules.declared.decision.Decision.{Decision}
+use Rattle.pg_law_least.specs.pg_slice_rules.declared.decision.Decision.TheVariants.{Pinned, Exact}
+use Rattle.pg_law_least.specs.pg_slice_rules.Moments.{Moment, thread_in}
+use Rattle.pg_law_least.specs.pg_slice_rules.Freeable.{FreeRegion, bounds_of}
+use Rattle.pg_law_least.specs.pg_slice_rules.SymbolicValues.{Symbolic, Known, Bounded, Unknown, always, applied, byte_in, is_within, loaded, symbolic_of, unset}
+use Rattle.pg_law_least.specs.pg_slice_rules.Extents.{edge_in}
+use Rattle.pg_law_least.specs.pg_slice_rules.Known.{SymbolicState, Taken, after_access, after_branch, after_event, after_known, after_op, along_edge, bytes_by, bytes_freed, bytes_stored, caller_target, entered}
+use Rattle.pg_law_least.specs.pg_slice_rules.Known.{exit_symbolic, from_input, function_in, has, load_of, operand_at, optional_symbolic, registers_of, result_in, returned_symbolic, set_symbolic, started, thread_of}
+use Rattle.pg_law_least.specs.pg_slice_rules.Known.{top_of, under_top, with_top, words_after, written_symbolic}
 use Rattle.pg_law_least.specs.Keeps.{MaySetPhis, is_store, may_write}
 use Rattle.pg_law_least.proofs.KeptLikeness.{Outside, forgotten_byte, outside_edge}
 use Rattle.pg_law_least.proofs.LiveSteps.{calls_by, known_bytes, known_words}

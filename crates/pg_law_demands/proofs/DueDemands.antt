@@ -2,11 +2,11 @@
 use Rattle.std.proofs.Common.{◌≡◌, ℕ, zero, suc, ◌+◌, ◌<◌, ◌≤◌, true, List, [], ◌∷◌, length, take, Some, None, subst, arith}
 use Rattle.std.specs.Prelude.{Contains, slice_get}
 use Rattle.std.specs.List.{AllByRecursion}
-use Rattle.pg_slice_rules.specs.declared.decision.Decision.{Decision}
-use Rattle.pg_slice_rules.specs.Moments.{Moment}
-use Rattle.pg_slice_rules.specs.SymbolicValues.{Symbolic}
-use Rattle.pg_slice_rules.specs.Known.{Reference, SymbolicState, Seen, Taken, after_step, has, seen_from, start_of}
-use Rattle.pg_slice_rules.specs.Closed.{AreWithin, IsClosed}
+use Rattle.pg_law_least.specs.pg_slice_rules.declared.decision.Decision.{Decision}
+use Rattle.pg_law_least.specs.pg_slice_rules.Moments.{Moment}
+use Rattle.pg_law_least.specs.pg_slice_rules.SymbolicValues.{Symbolic}
+use Rattle.pg_law_least.specs.pg_slice_rules.Known.{Reference, SymbolicState, Seen, Taken, after_step, has, seen_from, start_of}
+use Rattle.pg_law_least.specs.pg_slice_rules.Closed.{AreWithin, IsClosed}
 use Rattle.pg_law_least.specs.Keeps.{ExtentsKeep, every, steps_of}
 use Rattle.pg_region_paths.proofs.Elements.{here, there}
 use Rattle.pg_law_least.proofs.KeptLikeness.{IsLink}

@@ -7,3 +7,4 @@ pub mod WalkBack
 pub mod DueDemands
 pub mod PassedByExtents
 pub mod StepsInExtents
+pub use Rattle.pg_law_least.proofs as of_pg_law_least

@@ -19,16 +19,16 @@ use Rattle.pg_run_trace.specs.declared.step.StepKind.TheVariants as kinds
 use Rattle.pg_run_trace.specs.declared.step.Access.{Access}
 use Rattle.pg_run_trace.specs.declared.step.Event.{Event}
 use Rattle.pg_run_trace.specs.Steps.{access_in}
-use Rattle.pg_slice_rules.specs.declared.decision.Decision.{Decision}
-use Rattle.pg_slice_rules.specs.declared.decision.Decision.TheVariants.{Pinned, Exact}
-use Rattle.pg_slice_rules.specs.Moments.{Moment, instr_in, thread_in}
-use Rattle.pg_slice_rules.specs.Freeable.{FreeAccess, FreeRegion}
-use Rattle.pg_slice_rules.specs.SymbolicValues.{Symbolic, Known, Bounded, Unknown, blames, bounds_blames, loaded}
-use Rattle.pg_slice_rules.specs.Known.{Reference, SymbolicState, Seen, Taken, has, is_branch, operand_at, registers_of, thread_of}
-use Rattle.pg_slice_rules.specs.Rules.{Need, Value, Bounds, access_needs_by, access_needs_in, address_index, all_of, asks_pins, checked_of, edge_tests, equal_to, event_needs, bounds_needs}
-use Rattle.pg_slice_rules.specs.Rules.{free_access_needs, has_region, is_malloc, moved_symbolic, need_blames, operand_of, path_needs, region_needs_in, root_symbolic, same_bounds, value_needs}
-use Rattle.pg_slice_rules.specs.Rules.{value_needs_by, value_needs_in, write_index, write_needs}
-use Rattle.pg_slice_rules.specs.Closed.{AreWithin}
+use Rattle.pg_law_least.specs.pg_slice_rules.declared.decision.Decision.{Decision}
+use Rattle.pg_law_least.specs.pg_slice_rules.declared.decision.Decision.TheVariants.{Pinned, Exact}
+use Rattle.pg_law_least.specs.pg_slice_rules.Moments.{Moment, instr_in, thread_in}
+use Rattle.pg_law_least.specs.pg_slice_rules.Freeable.{FreeAccess, FreeRegion}
+use Rattle.pg_law_least.specs.pg_slice_rules.SymbolicValues.{Symbolic, Known, Bounded, Unknown, blames, bounds_blames, loaded}
+use Rattle.pg_law_least.specs.pg_slice_rules.Known.{Reference, SymbolicState, Seen, Taken, has, is_branch, operand_at, registers_of, thread_of}
+use Rattle.pg_law_least.specs.pg_slice_rules.Rules.{Need, Value, Bounds, access_needs_by, access_needs_in, address_index, all_of, asks_pins, checked_of, edge_tests, equal_to, event_needs, bounds_needs}
+use Rattle.pg_law_least.specs.pg_slice_rules.Rules.{free_access_needs, has_region, is_malloc, moved_symbolic, need_blames, operand_of, path_needs, region_needs_in, root_symbolic, same_bounds, value_needs}
+use Rattle.pg_law_least.specs.pg_slice_rules.Rules.{value_needs_by, value_needs_in, write_index, write_needs}
+use Rattle.pg_law_least.specs.pg_slice_rules.Closed.{AreWithin}
 use Rattle.pg_region_paths.proofs.Elements.{here, there}
 use Rattle.pg_law_demands.specs.Cells.{Demand, IsMet, call_at, is_met}
 use Rattle.pg_law_demands.specs.Back.{of_bytes}

@@ -14,14 +14,14 @@ use Rattle.pg_run_trace.specs.declared.step.StepKind.{StepKind}
 use Rattle.pg_run_trace.specs.declared.step.StepKind.TheVariants as kinds
 use Rattle.pg_run_trace.specs.declared.step.Access.{Access}
 use Rattle.pg_run_trace.specs.Steps.{happening_in}
-use Rattle.pg_slice_rules.specs.declared.decision.Decision.{Decision}
-use Rattle.pg_slice_rules.specs.declared.decision.Decision.TheVariants.{Pinned}
-use Rattle.pg_slice_rules.specs.Moments.{Moment, thread_in}
-use Rattle.pg_slice_rules.specs.Freeable.{FreeRegion}
-use Rattle.pg_slice_rules.specs.SymbolicValues.{Symbolic, Unknown, unset}
-use Rattle.pg_slice_rules.specs.Extents.{Extent, edge_by, edge_in, is_live}
-use Rattle.pg_slice_rules.specs.Known.{Reference, SymbolicState, Seen, Taken, after_access, after_branch, after_known, after_op, after_step, caller_target, optional_symbolic, result_in, seen_from}
-use Rattle.pg_slice_rules.specs.Known.{set_symbolic, start_of, thread_of, top_of, under_top, with_top}
+use Rattle.pg_law_least.specs.pg_slice_rules.declared.decision.Decision.{Decision}
+use Rattle.pg_law_least.specs.pg_slice_rules.declared.decision.Decision.TheVariants.{Pinned}
+use Rattle.pg_law_least.specs.pg_slice_rules.Moments.{Moment, thread_in}
+use Rattle.pg_law_least.specs.pg_slice_rules.Freeable.{FreeRegion}
+use Rattle.pg_law_least.specs.pg_slice_rules.SymbolicValues.{Symbolic, Unknown, unset}
+use Rattle.pg_law_least.specs.pg_slice_rules.Extents.{Extent, edge_by, edge_in, is_live}
+use Rattle.pg_law_least.specs.pg_slice_rules.Known.{Reference, SymbolicState, Seen, Taken, after_access, after_branch, after_known, after_op, after_step, caller_target, optional_symbolic, result_in, seen_from}
+use Rattle.pg_law_least.specs.pg_slice_rules.Known.{set_symbolic, start_of, thread_of, top_of, under_top, with_top}
 use Rattle.pg_law_least.specs.Keeps.{MaySet, MaySetPhis, every, steps_of}
 use Rattle.pg_law_least.specs.Along.{region_in}
 use Rattle.pg_region_paths.proofs.Elements.{cases as cases_in, here, none_in, there}

@@ -8,11 +8,11 @@ use Rattle.pg_ir.specs.declared.instr.Instr.{Instr}
 use Rattle.pg_run_trace.specs.declared.step.StepKind.TheVariants as kinds
 use Rattle.pg_run_trace.specs.declared.step.Access.{Access}
 use Rattle.pg_run_trace.specs.Steps.{range_of}
-use Rattle.pg_slice_rules.specs.Moments.{Moment, instr_in, thread_in}
-use Rattle.pg_slice_rules.specs.Freeable.{FreeRegion, bounds_of}
-use Rattle.pg_slice_rules.specs.SymbolicValues.{Symbolic, is_within, unset}
-use Rattle.pg_slice_rules.specs.Extents.{Extent, edge_in, is_live}
-use Rattle.pg_slice_rules.specs.Known.{Reference, SymbolicState, Seen, Taken, SymbolicThread, after_step, is_branch, no_thread, region_of, registers_of, thread_of, top_of, under_top}
+use Rattle.pg_law_least.specs.pg_slice_rules.Moments.{Moment, instr_in, thread_in}
+use Rattle.pg_law_least.specs.pg_slice_rules.Freeable.{FreeRegion, bounds_of}
+use Rattle.pg_law_least.specs.pg_slice_rules.SymbolicValues.{Symbolic, is_within, unset}
+use Rattle.pg_law_least.specs.pg_slice_rules.Extents.{Extent, edge_in, is_live}
+use Rattle.pg_law_least.specs.pg_slice_rules.Known.{Reference, SymbolicState, Seen, Taken, SymbolicThread, after_step, is_branch, no_thread, region_of, registers_of, thread_of, top_of, under_top}
 use Rattle.pg_law_least.specs.Keeps.{ExtentsKeep, MaySetPhis, every, is_store, steps_of}
 use Rattle.pg_law_least.proofs.AlikeLists.{length_like}
 use Rattle.pg_law_least.proofs.KeptLikeness.{IsLink}

@@ -6,12 +6,12 @@ use Rattle.std.specs.Prelude.{Contains, ◌&&◌, ◌||◌, filter, nat_le, nat_
 use Rattle.std.specs.List.{AllByRecursion, AllZip, list_any}
 use Rattle.std.proofs.lemmas.Bool.{true≢false, and_parts, or_cases, eqb-true, eq-eqb}
 use Rattle.pg_ir.specs.declared.instr.Instr.{Instr}
-use Rattle.pg_slice_rules.specs.declared.decision.Decision.TheVariants.{Pinned}
-use Rattle.pg_slice_rules.specs.Moments.{Moment, instr_in}
-use Rattle.pg_slice_rules.specs.Freeable.{FreeRegion}
-use Rattle.pg_slice_rules.specs.SymbolicValues.{Symbolic, unset}
-use Rattle.pg_slice_rules.specs.Extents.{Extent, edge_in, is_live}
-use Rattle.pg_slice_rules.specs.Known.{Reference, SymbolicState, Taken, SymbolicThread, after_step, start_of, thread_of, top_of}
+use Rattle.pg_law_least.specs.pg_slice_rules.declared.decision.Decision.TheVariants.{Pinned}
+use Rattle.pg_law_least.specs.pg_slice_rules.Moments.{Moment, instr_in}
+use Rattle.pg_law_least.specs.pg_slice_rules.Freeable.{FreeRegion}
+use Rattle.pg_law_least.specs.pg_slice_rules.SymbolicValues.{Symbolic, unset}
+use Rattle.pg_law_least.specs.pg_slice_rules.Extents.{Extent, edge_in, is_live}
+use Rattle.pg_law_least.specs.pg_slice_rules.Known.{Reference, SymbolicState, Taken, SymbolicThread, after_step, start_of, thread_of, top_of}
 use Rattle.pg_law_least.specs.Keeps.{ExtentsKeep, KeepsTo, MaySetPhis, every, may_write, steps_of}
 use Rattle.pg_law_least.proofs.AlikeLists.{length_like}
 use Rattle.pg_law_least.proofs.KeptLikeness.{IsLink}

@@ -12,9 +12,9 @@ use Rattle.pg_ir.specs.declared.instr.Op.{Op}
 use Rattle.pg_ir.specs.Program.{NumberedProgram}
 use Rattle.pg_ir.specs.Edges.{incoming_from, incoming_of, phis_of}
 use Rattle.pg_run_thread.specs.Operands.{operands_of}
-use Rattle.pg_slice_rules.specs.declared.decision.Decision.{Decision}
-use Rattle.pg_slice_rules.specs.SymbolicValues.{OnInput, Symbolic, Known, Bounded, Unknown, cut, from_all, joined, loaded, moved, result_of, symbolic_of, unset, valued}
-use Rattle.pg_slice_rules.specs.Known.{SymbolicState, along_edge, entered, forgotten_from, operand_at, operand_symbolics, optional_symbolic, phi_symbolic, set_phis, set_symbolic, thread_of}
+use Rattle.pg_law_least.specs.pg_slice_rules.declared.decision.Decision.{Decision}
+use Rattle.pg_law_least.specs.pg_slice_rules.SymbolicValues.{OnInput, Symbolic, Known, Bounded, Unknown, cut, from_all, joined, loaded, moved, result_of, symbolic_of, unset, valued}
+use Rattle.pg_law_least.specs.pg_slice_rules.Known.{SymbolicState, along_edge, entered, forgotten_from, operand_at, operand_symbolics, optional_symbolic, phi_symbolic, set_phis, set_symbolic, thread_of}
 use Rattle.pg_law_demands.specs.Cells.{IsMet, Register, call_at, is_met}
 use Rattle.pg_law_demands.specs.Back.{back_edge, back_moved, back_phi, is_target, last_phi, of_bytes, of_operand, of_optional, of_value, of_values, register_demand, this_phi}
 

@@ -3,14 +3,14 @@ use Rattle.std.proofs.Common.{◌≡◌, ℕ, suc, ◌+◌, ◌<◌, ◌≤◌, 
 use Rattle.std.specs.Prelude.{Contains, ◌&&◌, if◌then◌else◌}
 use Rattle.std.specs.List.{AllByRecursion, list_any}
 use Rattle.std.proofs.lemmas.Bool.{true≢false, and_parts, or_cases, eqb-true}
-use Rattle.pg_slice_rules.specs.declared.decision.Decision.{Decision}
-use Rattle.pg_slice_rules.specs.declared.decision.Decision.TheVariants.{Pinned, Exact}
-use Rattle.pg_slice_rules.specs.Moments.{Moment, instr_in, thread_in}
-use Rattle.pg_slice_rules.specs.SymbolicValues.{Symbolic}
-use Rattle.pg_slice_rules.specs.Extents.{Extent, is_live}
-use Rattle.pg_slice_rules.specs.Known.{Reference, SymbolicState, Seen, Taken, after_step, has, region_of, seen_from, seen_in, start_of, thread_of}
-use Rattle.pg_slice_rules.specs.Rules.{all_of, asks_bounds, asks_pins, asks_values, bounds_needs, need_blames, value_needs}
-use Rattle.pg_slice_rules.specs.Closed.{AreWithin, IsClosed}
+use Rattle.pg_law_least.specs.pg_slice_rules.declared.decision.Decision.{Decision}
+use Rattle.pg_law_least.specs.pg_slice_rules.declared.decision.Decision.TheVariants.{Pinned, Exact}
+use Rattle.pg_law_least.specs.pg_slice_rules.Moments.{Moment, instr_in, thread_in}
+use Rattle.pg_law_least.specs.pg_slice_rules.SymbolicValues.{Symbolic}
+use Rattle.pg_law_least.specs.pg_slice_rules.Extents.{Extent, is_live}
+use Rattle.pg_law_least.specs.pg_slice_rules.Known.{Reference, SymbolicState, Seen, Taken, after_step, has, region_of, seen_from, seen_in, start_of, thread_of}
+use Rattle.pg_law_least.specs.pg_slice_rules.Rules.{all_of, asks_bounds, asks_pins, asks_values, bounds_needs, need_blames, value_needs}
+use Rattle.pg_law_least.specs.pg_slice_rules.Closed.{AreWithin, IsClosed}
 use Rattle.pg_law_least.specs.Keeps.{ExtentsKeep, every, steps_of}
 use Rattle.pg_region_paths.proofs.Elements.{here, there}
 use Rattle.pg_law_least.proofs.KeptLikeness.{IsLink}

@@ -1,10 +1,10 @@
 -- What is known before each step of a run, and what has to be known there under all larger closed decisions.
 use Rattle.std.specs.Prelude.{◌≡◌, ℕ, suc, List, [], ◌∷◌, Contains, take, true, Some, slice_get}
 use Rattle.std.specs.List.{AllByRecursion}
-use Rattle.pg_slice_rules.specs.declared.decision.Decision.{Decision}
-use Rattle.pg_slice_rules.specs.Closed.{AreWithin, IsClosed}
-use Rattle.pg_slice_rules.specs.Known.{Reference, SymbolicState, Seen, Taken, after_step, has, start_of}
-use Rattle.pg_slice_rules.specs.Moments.{Moment}
+use Rattle.pg_law_least.specs.pg_slice_rules.declared.decision.Decision.{Decision}
+use Rattle.pg_law_least.specs.pg_slice_rules.Closed.{AreWithin, IsClosed}
+use Rattle.pg_law_least.specs.pg_slice_rules.Known.{Reference, SymbolicState, Seen, Taken, after_step, has, start_of}
+use Rattle.pg_law_least.specs.pg_slice_rules.Moments.{Moment}
 use Rattle.pg_law_least.specs.Keeps.{steps_of}
 use Rattle.pg_law_demands.specs.Cells.{Demand, IsMet}
 use Rattle.pg_law_demands.specs.Back.{Asked}

@@ -18,14 +18,14 @@ use Rattle.pg_run_trace.specs.declared.step.Access.{Access}
 use Rattle.pg_run_trace.specs.declared.step.Event.{Event}
 use Rattle.pg_run_trace.specs.declared.step.Write.{Write}
 use Rattle.pg_run_trace.specs.Steps.{range_of, write_by}
-use Rattle.pg_slice_rules.specs.declared.decision.Decision.{Decision}
-use Rattle.pg_slice_rules.specs.declared.decision.Decision.TheVariants.{Pinned, Exact}
-use Rattle.pg_slice_rules.specs.Moments.{Moment, thread_in}
-use Rattle.pg_slice_rules.specs.Freeable.{FreeRegion, bounds_of}
-use Rattle.pg_slice_rules.specs.SymbolicValues.{is_within}
-use Rattle.pg_slice_rules.specs.Extents.{edge_in}
-use Rattle.pg_slice_rules.specs.Known.{Seen, caller_target, function_in, thread_of, top_of, under_top}
-use Rattle.pg_slice_rules.specs.Rules.{all_of, kind_in, registers_before}
+use Rattle.pg_law_least.specs.pg_slice_rules.declared.decision.Decision.{Decision}
+use Rattle.pg_law_least.specs.pg_slice_rules.declared.decision.Decision.TheVariants.{Pinned, Exact}
+use Rattle.pg_law_least.specs.pg_slice_rules.Moments.{Moment, thread_in}
+use Rattle.pg_law_least.specs.pg_slice_rules.Freeable.{FreeRegion, bounds_of}
+use Rattle.pg_law_least.specs.pg_slice_rules.SymbolicValues.{is_within}
+use Rattle.pg_law_least.specs.pg_slice_rules.Extents.{edge_in}
+use Rattle.pg_law_least.specs.pg_slice_rules.Known.{Seen, caller_target, function_in, thread_of, top_of, under_top}
+use Rattle.pg_law_least.specs.pg_slice_rules.Rules.{all_of, kind_in, registers_before}
 use Rattle.pg_law_least.specs.Keeps.{depth_of, may_write}
 use Rattle.pg_law_demands.specs.Cells.{Cell, Demand, Register, Byte, Word}
 

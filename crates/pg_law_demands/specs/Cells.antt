@@ -1,7 +1,7 @@
 -- The parts of what is known along a run, one by one, and what may be asked of one.
 use Rattle.std.specs.Prelude.{◌≡◌, ℕ, suc, ◌==◌, not, List, [], ◌∷◌, length, Bool, true, false, if◌then◌else◌, slice_index_or}
-use Rattle.pg_slice_rules.specs.SymbolicValues.{Symbolic, Known, Bounded, Unknown, unset}
-use Rattle.pg_slice_rules.specs.Known.{SymbolicState, thread_of}
+use Rattle.pg_law_least.specs.pg_slice_rules.SymbolicValues.{Symbolic, Known, Bounded, Unknown, unset}
+use Rattle.pg_law_least.specs.pg_slice_rules.Known.{SymbolicState, thread_of}
 
 -- a register of a call of a thread, the call by how many calls the thread has with it on top; a byte; the word of a thread
 pub data Cell : Type 0 where

@@ -12,13 +12,13 @@ use Rattle.pg_run_trace.specs.declared.step.StepKind.{StepKind}
 use Rattle.pg_run_trace.specs.declared.step.StepKind.TheVariants as kinds
 use Rattle.pg_run_trace.specs.declared.step.Access.{Access}
 use Rattle.pg_run_trace.specs.Steps.{access_in}
-use Rattle.pg_slice_rules.specs.declared.decision.Decision.{Decision}
-use Rattle.pg_slice_rules.specs.declared.decision.Decision.TheVariants.{Pinned, Exact}
-use Rattle.pg_slice_rules.specs.Moments.{thread_in}
-use Rattle.pg_slice_rules.specs.Freeable.{FreeAccess, FreeRegion}
-use Rattle.pg_slice_rules.specs.Extents.{Extent, is_live}
-use Rattle.pg_slice_rules.specs.Known.{Reference, Seen, Taken, is_branch}
-use Rattle.pg_slice_rules.specs.Rules.{address_index, all_of, checked_of, has_region, is_malloc, kind_in, write_index}
+use Rattle.pg_law_least.specs.pg_slice_rules.declared.decision.Decision.{Decision}
+use Rattle.pg_law_least.specs.pg_slice_rules.declared.decision.Decision.TheVariants.{Pinned, Exact}
+use Rattle.pg_law_least.specs.pg_slice_rules.Moments.{thread_in}
+use Rattle.pg_law_least.specs.pg_slice_rules.Freeable.{FreeAccess, FreeRegion}
+use Rattle.pg_law_least.specs.pg_slice_rules.Extents.{Extent, is_live}
+use Rattle.pg_law_least.specs.pg_slice_rules.Known.{Reference, Seen, Taken, is_branch}
+use Rattle.pg_law_least.specs.pg_slice_rules.Rules.{address_index, all_of, checked_of, has_region, is_malloc, kind_in, write_index}
 use Rattle.pg_law_least.specs.Keeps.{depth_of, instr_of, open_before, steps_of}
 use Rattle.pg_law_demands.specs.Cells.{Demand}
 use Rattle.pg_law_demands.specs.Back.{Asked, back, of_bytes, of_operand, register_demand}

@@ -1,8 +1,8 @@
 -- What the laws say.
 use Rattle.std.specs.Prelude.{◌≡◌, Contains, true}
-use Rattle.pg_slice_rules.specs.declared.decision.Decision.{Decision}
-use Rattle.pg_slice_rules.specs.Known.{Reference, Taken, has}
-use Rattle.pg_slice_rules.specs.Closed.{AreWithin, IsClosed}
+use Rattle.pg_law_least.specs.pg_slice_rules.declared.decision.Decision.{Decision}
+use Rattle.pg_law_least.specs.pg_slice_rules.Known.{Reference, Taken, has}
+use Rattle.pg_law_least.specs.pg_slice_rules.Closed.{AreWithin, IsClosed}
 use Rattle.pg_law_demands.specs.Demands.{demanded}
 
 -- each decision that is demanded is in each larger set that is closed

@@ -1,10 +1,10 @@
 -- Steps in extents of branch steps that aren't pinned: what the extent's region may have set, and what passes it as it was.
 use Rattle.std.specs.Prelude.{ℕ, ◌==◌, ◌&&◌, ◌||◌, not, nat_le, nat_lt, filter, List, [], ◌∷◌, length, Bool, true, false, Option, Some, None, if◌then◌else◌, slice_get}
 use Rattle.std.specs.List.{list_any}
-use Rattle.pg_slice_rules.specs.Moments.{Moment, thread_in}
-use Rattle.pg_slice_rules.specs.Freeable.{FreeRegion}
-use Rattle.pg_slice_rules.specs.Extents.{Extent}
-use Rattle.pg_slice_rules.specs.Known.{Reference, Seen, thread_of}
+use Rattle.pg_law_least.specs.pg_slice_rules.Moments.{Moment, thread_in}
+use Rattle.pg_law_least.specs.pg_slice_rules.Freeable.{FreeRegion}
+use Rattle.pg_law_least.specs.pg_slice_rules.Extents.{Extent}
+use Rattle.pg_law_least.specs.pg_slice_rules.Known.{Reference, Seen, thread_of}
 use Rattle.pg_law_least.specs.Along.{region_in}
 use Rattle.pg_law_least.specs.Keeps.{depth_of, may_write}
 use Rattle.pg_law_demands.specs.Cells.{Cell, Demand, Register, Byte, Word, call_at}

@@ -1,7 +1,7 @@
 //! Laws on what has to be known before the steps of a reference run, and the decisions that this takes. The premise
 //! `ExtentsKeep` says of a run what its steps keep to in the extents of freeable branch steps.
 
-ghost use Rattle.pg_slice_rules.specs.Known.{Reference};
+ghost use Rattle.pg_law_least.specs.pg_slice_rules.Known.{Reference};
 ghost use Rattle.pg_law_least.specs.Keeps.{ExtentsKeep};
 ghost use Rattle.pg_law_demands.specs.Along.{DemandedStayWithin, DueBefore, MoreAreDue, SomeAreDue};
 ghost use Rattle.pg_law_demands.specs.Laws.{DemandsAreAbove};

@@ -3,8 +3,8 @@ use Rattle.std.proofs.Common.{◌≡◌, ◌≢◌, ℕ, zero, suc, ◌<◌, Lis
 use Rattle.std.specs.Prelude.{slice_get, slice_set, ◌&&◌, ◌||◌, is_some}
 use Rattle.std.proofs.lemmas.List.{set-append_left}
 use Rattle.pg_num.specs.Places.{ByteRange}
-use Rattle.pg_run_memory.specs.Memory.{Words, written}
-use Rattle.pg_run_objects.specs.Sync as sync
+use Rattle.pg_run.specs.pg_run_memory.Memory.{Words, written}
+use Rattle.pg_run.specs.pg_run_objects.Sync as sync
 use Rattle.pg_run_thread.specs.LocalState.{LocalState}
 use Rattle.pg_run.specs.State.{State}
 use Rattle.pg_run.proofs.Threads.{set_length}

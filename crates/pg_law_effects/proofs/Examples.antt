@@ -2,11 +2,11 @@
 use Rattle.std.proofs.Common.{◌≡◌, ℕ, [], ◌∷◌, true, false, Option, Some, None, refl}
 use Rattle.pg_num.specs.Places.{ByteRange}
 use Rattle.pg_ir.specs.declared.request.Request.TheVariants as requests
-use Rattle.pg_run_objects.specs.Sync as sync
+use Rattle.pg_run.specs.pg_run_objects.Sync as sync
 use Rattle.pg_run_thread.specs.declared.action.Action.TheVariants as actions
-use Rattle.pg_run_trace.specs.declared.step.StepKind.TheVariants as told
-use Rattle.pg_run_trace.specs.declared.turn.Turn.{Turn}
-use Rattle.pg_run_trace.specs.declared.turn.TurnKind.TheVariants as kinds
+use Rattle.pg_run.specs.pg_run_trace.declared.step.StepKind.TheVariants as told
+use Rattle.pg_run.specs.pg_run_trace.declared.turn.Turn.{Turn}
+use Rattle.pg_run.specs.pg_run_trace.declared.turn.TurnKind.TheVariants as kinds
 use Rattle.pg_run.specs.State.{State}
 use Rattle.pg_law_effects.specs.Effect.{Effect, Write, effect, value_left, word_left, word_read_by, write_of}
 use Rattle.pg_law_effects.specs.Gates.{marked}

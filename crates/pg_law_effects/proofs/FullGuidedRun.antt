@@ -11,10 +11,10 @@ use Rattle.pg_ir.specs.declared.ids.InstrId.{InstrId}
 use Rattle.pg_ir.specs.declared.ids.ThreadNo.{ThreadNo}
 use Rattle.pg_ir.specs.declared.request.TrapName.{TrapName}
 use Rattle.pg_ir.specs.Program.{NumberedProgram}
-use Rattle.pg_run_objects.specs.Sync as sync
+use Rattle.pg_run.specs.pg_run_objects.Sync as sync
 use Rattle.pg_run_thread.specs.LocalState.{LocalState}
-use Rattle.pg_run_trace.specs.declared.turn.Turn.{Turn}
-use Rattle.pg_run_trace.specs.declared.step.Step.{Step}
+use Rattle.pg_run.specs.pg_run_trace.declared.turn.Turn.{Turn}
+use Rattle.pg_run.specs.pg_run_trace.declared.step.Step.{Step}
 use Rattle.pg_run.specs.declared.guided_end.GuidedEnd.{GuidedEnd}
 use Rattle.pg_run.specs.declared.guided_end.GuidedEnd.TheVariants as ends
 use Rattle.pg_run.specs.State.{State, initial, action_in, id_in, next_of, instr_of}

@@ -9,12 +9,12 @@ use Rattle.pg_num.specs.declared.limits.TheConstants.{GUIDED_STEP_LIMIT, THREAD_
 use Rattle.pg_ir.specs.declared.ids.InstrId.{InstrId}
 use Rattle.pg_ir.specs.declared.request.TrapName.{TrapName}
 use Rattle.pg_ir.specs.Program.{NumberedProgram}
-use Rattle.pg_run_objects.specs.Sync as sync
+use Rattle.pg_run.specs.pg_run_objects.Sync as sync
 use Rattle.pg_run_thread.specs.declared.action.Action.{Action}
 use Rattle.pg_run_thread.specs.declared.action.Action.TheVariants as actions
 use Rattle.pg_run_thread.specs.LocalState.{LocalState}
-use Rattle.pg_run_trace.specs.declared.turn.Turn.{Turn}
-use Rattle.pg_run_trace.specs.declared.step.Step.{Step}
+use Rattle.pg_run.specs.pg_run_trace.declared.turn.Turn.{Turn}
+use Rattle.pg_run.specs.pg_run_trace.declared.step.Step.{Step}
 use Rattle.pg_run.specs.declared.guided_end.GuidedEnd.{GuidedEnd}
 use Rattle.pg_run.specs.declared.guided_end.GuidedEnd.TheVariants as ends
 use Rattle.pg_run.specs.State.{State, initial, action_in, id_in, next_of, instr_of}
@@ -217,16 +217,16 @@ module _ (gated : List InstrId) (p : NumberedProgram) (input : List ℤ) where
       → is_some (turn_with s t (happening_of gated s t action)) ≡ is_some (turn_with z t (happening_of gated z t action))
   event_same s z t (actions.Load r) e = ap (λ (n : ℕ). is_some
       (turn_with s t (Rattle.pg_run.specs.MachineStep.happening_if
-      (Rattle.pg_run.specs.MachineStep.is_gated gated n) Rattle.pg_run_trace.specs.declared.turn.TurnKind.TheVariants.Load r.start))) e ∙ some_same s z t _
+      (Rattle.pg_run.specs.MachineStep.is_gated gated n) Rattle.pg_run.specs.pg_run_trace.declared.turn.TurnKind.TheVariants.Load r.start))) e ∙ some_same s z t _
     where
-      some_same : (s z : State) (t : ℕ) (o : Option Rattle.pg_run_trace.specs.declared.step.Happening.Happening) → is_some (turn_with s t o) ≡ is_some (turn_with z t o)
+      some_same : (s z : State) (t : ℕ) (o : Option Rattle.pg_run.specs.pg_run_trace.declared.step.Happening.Happening) → is_some (turn_with s t o) ≡ is_some (turn_with z t o)
       some_same s z t None = refl
       some_same s z t (Some h) = refl
   event_same s z t (actions.Store r n) e = ap (λ (n : ℕ). is_some
       (turn_with s t (Rattle.pg_run.specs.MachineStep.happening_if
-      (Rattle.pg_run.specs.MachineStep.is_gated gated n) Rattle.pg_run_trace.specs.declared.turn.TurnKind.TheVariants.Store r.start))) e ∙ some_same s z t _
+      (Rattle.pg_run.specs.MachineStep.is_gated gated n) Rattle.pg_run.specs.pg_run_trace.declared.turn.TurnKind.TheVariants.Store r.start))) e ∙ some_same s z t _
     where
-      some_same : (s z : State) (t : ℕ) (o : Option Rattle.pg_run_trace.specs.declared.step.Happening.Happening) → is_some (turn_with s t o) ≡ is_some (turn_with z t o)
+      some_same : (s z : State) (t : ℕ) (o : Option Rattle.pg_run.specs.pg_run_trace.declared.step.Happening.Happening) → is_some (turn_with s t o) ≡ is_some (turn_with z t o)
       some_same s z t None = refl
       some_same s z t (Some h) = refl
   event_same s z t (actions.Event r) e = refl

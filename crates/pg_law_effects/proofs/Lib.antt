@@ -16,3 +16,4 @@ pub mod SmallActions
 pub mod TellDependence
 pub mod ToldByStep
 pub mod GuidedWalks
+pub use Rattle.pg_run.proofs as of_pg_run

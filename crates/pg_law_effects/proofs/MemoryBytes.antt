@@ -6,10 +6,10 @@ use Rattle.std.proofs.lemmas.Bool.Decides.{nat_tests}
 use Rattle.std.proofs.lemmas.List.{get_or_past}
 use Rattle.pg_num.specs.Places.{ByteRange}
 use Rattle.pg_num.specs.declared.layout.TheConstants.{GRANULE_COUNT, MEMORY_BYTES}
-use Rattle.pg_run_memory.specs.Bytes.{byte_of, number_of, with_bytes}
-use Rattle.pg_run_memory.specs.Memory.{Words, byte_at, words_from, memory_of, read, written}
-use Rattle.pg_run_memory.proofs.Places.{same_number}
-use Rattle.pg_run_memory.proofs.ReadsAndWrites.{byte_at-memory_of, memory_of_memory}
+use Rattle.pg_run.specs.pg_run_memory.Bytes.{byte_of, number_of, with_bytes}
+use Rattle.pg_run.specs.pg_run_memory.Memory.{Words, byte_at, words_from, memory_of, read, written}
+use Rattle.pg_run.proofs.of_pg_run_memory.Places.{same_number}
+use Rattle.pg_run.proofs.of_pg_run_memory.ReadsAndWrites.{byte_at-memory_of, memory_of_memory}
 use Rattle.pg_law_effects.specs.Meets.{is_in}
 
 -- ---- one byte

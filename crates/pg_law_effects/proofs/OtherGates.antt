@@ -11,8 +11,8 @@ use Rattle.pg_ir.specs.declared.request.TrapName.{TrapName}
 use Rattle.pg_ir.specs.Program.{NumberedProgram}
 use Rattle.pg_run_thread.specs.declared.action.Action.{Action}
 use Rattle.pg_run_thread.specs.declared.action.Action.TheVariants as actions
-use Rattle.pg_run_trace.specs.declared.step.Step.{Step}
-use Rattle.pg_run_trace.specs.declared.step.StepKind.{StepKind}
+use Rattle.pg_run.specs.pg_run_trace.declared.step.Step.{Step}
+use Rattle.pg_run.specs.pg_run_trace.declared.step.StepKind.{StepKind}
 use Rattle.pg_run.specs.State.{State, initial, instr_of, next_of}
 use Rattle.pg_run.specs.MachineStep.{Answered, Stepped, Did, Trapped, answered, instr_told, is_gated, kind_told, library_told, local_after, number_in, op_told, operands_in, settled, step}
 use Rattle.pg_run.specs.MachineStep.{step_told, taken}

@@ -7,8 +7,8 @@ use Rattle.std.proofs.lemmas.List.Elements.{filter_map-append}
 use Rattle.pg_num.specs.declared.limits.TheConstants.{GUIDED_STEP_LIMIT}
 use Rattle.pg_ir.specs.declared.ids.InstrId.{InstrId}
 use Rattle.pg_ir.specs.Program.{NumberedProgram}
-use Rattle.pg_run_trace.specs.declared.turn.Turn.{Turn}
-use Rattle.pg_run_trace.specs.declared.step.Step.{Step}
+use Rattle.pg_run.specs.pg_run_trace.declared.turn.Turn.{Turn}
+use Rattle.pg_run.specs.pg_run_trace.declared.step.Step.{Step}
 use Rattle.pg_run.specs.State.{State, initial}
 use Rattle.pg_run.specs.Runs.{IsRun, Takes, event_of, events, steps_of}
 use Rattle.pg_run.specs.Permitted.{IsPermitted, has_turn, turns_left}

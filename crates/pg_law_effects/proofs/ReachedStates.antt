@@ -18,20 +18,20 @@ use Rattle.pg_ir.specs.declared.request.Request.TheVariants as requests
 use Rattle.pg_ir.specs.declared.request.TrapName.{TrapName}
 use Rattle.pg_ir.specs.Program.{NumberedProgram}
 use Rattle.pg_ir.specs.WellFormed.{IsProgram}
-use Rattle.pg_run_memory.specs.Bytes.{byte_of, number_of, with_bytes}
-use Rattle.pg_run_memory.specs.Initial.{initial_byte, with_bytes_at}
-use Rattle.pg_run_memory.specs.Initial as first
-use Rattle.pg_run_memory.specs.Memory.{Words, IsMemory, byte_at, memory_of, read, written}
-use Rattle.pg_run_memory.proofs.ReadsAndWrites.{memory_of_memory}
-use Rattle.pg_run_objects.specs.declared.reply.Reply.{Reply}
-use Rattle.pg_run_objects.specs.Objects.{object_at, is_free}
-use Rattle.pg_run_objects.specs.Sync as sync
+use Rattle.pg_run.specs.pg_run_memory.Bytes.{byte_of, number_of, with_bytes}
+use Rattle.pg_run.specs.pg_run_memory.Initial.{initial_byte, with_bytes_at}
+use Rattle.pg_run.specs.pg_run_memory.Initial as first
+use Rattle.pg_run.specs.pg_run_memory.Memory.{Words, IsMemory, byte_at, memory_of, read, written}
+use Rattle.pg_run.proofs.of_pg_run_memory.ReadsAndWrites.{memory_of_memory}
+use Rattle.pg_run.specs.pg_run_objects.declared.reply.Reply.{Reply}
+use Rattle.pg_run.specs.pg_run_objects.Objects.{object_at, is_free}
+use Rattle.pg_run.specs.pg_run_objects.Sync as sync
 use Rattle.pg_run_thread.specs.declared.action.Action.{Action}
 use Rattle.pg_run_thread.specs.declared.action.Action.TheVariants as actions
 use Rattle.pg_run_thread.specs.LocalState.{Frame, LocalState, fresh}
 use Rattle.pg_run_thread.specs.Step.{after, frames_after, instr_after, bytes_of, next}
 use Rattle.pg_run_thread.specs.States.{IsOf, CanStep}
-use Rattle.pg_run_trace.specs.declared.step.Step.{Step}
+use Rattle.pg_run.specs.pg_run_trace.declared.step.Step.{Step}
 use Rattle.pg_run.specs.Machine.{IsMachine}
 use Rattle.pg_run.specs.State.{State, initial, next_of}
 use Rattle.pg_run.specs.MachineStep.{Answered, Did, answer_of, answered, local_after, may_act, ready, settled, step, taken}

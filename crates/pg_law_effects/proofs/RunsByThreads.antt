@@ -4,8 +4,8 @@ use Rattle.std.specs.Prelude.{◌↔◌, length, not, ◌&&◌, if◌then◌else
 use Rattle.pg_num.specs.declared.layout.TheConstants.{GRANULE_COUNT}
 use Rattle.pg_ir.specs.declared.ids.InstrId.{InstrId}
 use Rattle.pg_ir.specs.Program.{NumberedProgram}
-use Rattle.pg_run_trace.specs.declared.step.Step.{Step}
-use Rattle.pg_run_objects.specs.Sync as sync
+use Rattle.pg_run.specs.pg_run_trace.declared.step.Step.{Step}
+use Rattle.pg_run.specs.pg_run_objects.Sync as sync
 use Rattle.pg_run.specs.State.{State, next_of}
 use Rattle.pg_run.specs.MachineStep.{Stepped, Did, Trapped, may_act, ready, step}
 use Rattle.pg_run.specs.Runs.{IsRun, Takes}

@@ -10,14 +10,14 @@ use Rattle.pg_ir.specs.declared.ids.InstrId.{InstrId}
 use Rattle.pg_ir.specs.declared.request.Request.{Request}
 use Rattle.pg_ir.specs.declared.request.Request.TheVariants as requests
 use Rattle.pg_ir.specs.Program.{NumberedProgram}
-use Rattle.pg_run_memory.specs.Memory.{Words, byte_at}
-use Rattle.pg_run_objects.specs.Sync as sync
+use Rattle.pg_run.specs.pg_run_memory.Memory.{Words, byte_at}
+use Rattle.pg_run.specs.pg_run_objects.Sync as sync
 use Rattle.pg_run_thread.specs.declared.action.Action.{Action}
 use Rattle.pg_run_thread.specs.declared.action.Action.TheVariants as actions
 use Rattle.pg_run_thread.specs.LocalState.{LocalState, fresh}
 use Rattle.pg_run_thread.specs.Step.{after, next, top_function}
 use Rattle.pg_run_thread.specs.States.{CanStep}
-use Rattle.pg_run_trace.specs.declared.step.Step.{Step}
+use Rattle.pg_run.specs.pg_run_trace.declared.step.Step.{Step}
 use Rattle.pg_run.specs.State.{State, action_in, next_of}
 use Rattle.pg_run.specs.MachineStep.{Did, ready, step}
 use Rattle.pg_run.proofs.StepsBegin.{next_is, ready_acts, ready_made}
@@ -43,7 +43,7 @@ memory_cell : (m : Words) (w : Option Write) (c : ℕ) → c < MEMORY_BYTES → 
 memory_cell m None c h = refl
 memory_cell m (Some w) c h = byte_after m w.at w.number c h ∙ go (is_in w.at c) refl
   where
-    go : (b : Bool) → is_in w.at c ≡ b → Rattle.pg_run_memory.specs.Bytes.with_bytes (byte_at m) w.at w.number c ≡ or_old (byte_in (Some w) c) (byte_at m c)
+    go : (b : Bool) → is_in w.at c ≡ b → Rattle.pg_run.specs.pg_run_memory.Bytes.with_bytes (byte_at m) w.at w.number c ≡ or_old (byte_in (Some w) c) (byte_at m c)
     go true e = rw e refl
     go false e = rw e refl
 

@@ -7,15 +7,15 @@ use Rattle.pg_ir.specs.declared.request.Request.{Request}
 use Rattle.pg_ir.specs.declared.request.Request.TheVariants as requests
 use Rattle.pg_ir.specs.declared.request.TrapName.{TrapName}
 use Rattle.pg_ir.specs.Program.{NumberedProgram}
-use Rattle.pg_run_objects.specs.Sync as sync
+use Rattle.pg_run.specs.pg_run_objects.Sync as sync
 use Rattle.pg_run_thread.specs.declared.action.Action.{Action}
 use Rattle.pg_run_thread.specs.declared.action.Action.TheVariants as actions
 use Rattle.pg_run_thread.specs.LocalState.{LocalState}
-use Rattle.pg_run_trace.specs.declared.step.Step.{Step}
-use Rattle.pg_run_trace.specs.declared.step.StepKind.{StepKind}
-use Rattle.pg_run_trace.specs.declared.step.StepKind.TheVariants as told
-use Rattle.pg_run_trace.specs.declared.step.Write.{Write}
-use Rattle.pg_run_trace.specs.Kinds.{kind_of, object_of}
+use Rattle.pg_run.specs.pg_run_trace.declared.step.Step.{Step}
+use Rattle.pg_run.specs.pg_run_trace.declared.step.StepKind.{StepKind}
+use Rattle.pg_run.specs.pg_run_trace.declared.step.StepKind.TheVariants as told
+use Rattle.pg_run.specs.pg_run_trace.declared.step.Write.{Write}
+use Rattle.pg_run.specs.pg_run_trace.Kinds.{kind_of, object_of}
 use Rattle.pg_run.specs.State.{State, action_in, id_in, instr_of, next_of}
 use Rattle.pg_run.specs.MachineStep.{Answered, answered, instr_told, is_gated, kind_told, number_in, operands_in, settled, step, step_told, taken, write_told}
 use Rattle.pg_law_effects.specs.Effect.{effect_of}

@@ -9,18 +9,18 @@ use Rattle.pg_ir.specs.declared.request.Request.{Request}
 use Rattle.pg_ir.specs.declared.request.Request.TheVariants as requests
 use Rattle.pg_ir.specs.declared.request.TrapName.{TrapName}
 use Rattle.pg_ir.specs.Program.{NumberedProgram}
-use Rattle.pg_run_objects.specs.declared.object.Object.{Object}
-use Rattle.pg_run_objects.specs.declared.object.Object.TheVariants as objects
-use Rattle.pg_run_objects.specs.declared.object.Entry.{Entry}
-use Rattle.pg_run_objects.specs.declared.reply.Reply.{Reply}
-use Rattle.pg_run_objects.specs.declared.status.Stage.TheVariants.{Arrived}
-use Rattle.pg_run_objects.specs.declared.status.Status.{Status}
-use Rattle.pg_run_objects.specs.Objects.{object_at, put_object}
-use Rattle.pg_run_objects.specs.Sync as sync
+use Rattle.pg_run.specs.pg_run_objects.declared.object.Object.{Object}
+use Rattle.pg_run.specs.pg_run_objects.declared.object.Object.TheVariants as objects
+use Rattle.pg_run.specs.pg_run_objects.declared.object.Entry.{Entry}
+use Rattle.pg_run.specs.pg_run_objects.declared.reply.Reply.{Reply}
+use Rattle.pg_run.specs.pg_run_objects.declared.status.Stage.TheVariants.{Arrived}
+use Rattle.pg_run.specs.pg_run_objects.declared.status.Status.{Status}
+use Rattle.pg_run.specs.pg_run_objects.Objects.{object_at, put_object}
+use Rattle.pg_run.specs.pg_run_objects.Sync as sync
 use Rattle.pg_run_thread.specs.declared.action.Action.{Action}
 use Rattle.pg_run_thread.specs.declared.action.Action.TheVariants as actions
 use Rattle.pg_run_thread.specs.LocalState.{LocalState, fresh}
-use Rattle.pg_run_trace.specs.declared.step.Step.{Step}
+use Rattle.pg_run.specs.pg_run_trace.declared.step.Step.{Step}
 use Rattle.pg_run.specs.State.{State, initial, next_of}
 use Rattle.pg_run.specs.MachineStep.{Answered, Stepped, Did, Trapped, answered, on_applied, settled, step, taken}
 use Rattle.pg_run.specs.Runs.{IsRun}

@@ -1,10 +1,10 @@
 -- Steps as they are told where other loads and stores are events.
 use Rattle.std.specs.Prelude.{List, Bool}
 use Rattle.pg_ir.specs.declared.ids.InstrId.{InstrId}
-use Rattle.pg_run_trace.specs.declared.step.Step.{Step}
-use Rattle.pg_run_trace.specs.declared.step.StepKind.{StepKind}
-use Rattle.pg_run_trace.specs.declared.step.StepKind.TheVariants as told
-use Rattle.pg_run_trace.specs.Steps.{events}
+use Rattle.pg_run.specs.pg_run_trace.declared.step.Step.{Step}
+use Rattle.pg_run.specs.pg_run_trace.declared.step.StepKind.{StepKind}
+use Rattle.pg_run.specs.pg_run_trace.declared.step.StepKind.TheVariants as told
+use Rattle.pg_run.specs.pg_run_trace.Steps.{events}
 use Rattle.pg_run.specs.MachineStep.{Stepped, Did, Trapped, is_gated}
 
 -- a load or a store is an event or not

@@ -7,3 +7,4 @@ pub mod Reached
 pub mod StatesAlong
 pub mod Told
 pub mod Views
+pub use Rattle.pg_run.specs as pg_run

@@ -3,8 +3,8 @@ use Rattle.std.specs.Prelude.{◌≡◌, ◌≢◌, ℕ, ◌+◌, ◌-◌, ◌&&
 use Rattle.std.specs.Prelude.{slice_index, if◌then◌else◌, ℤ}
 use Rattle.pg_num.specs.Places.{ByteRange}
 use Rattle.pg_ir.specs.Program.{NumberedProgram}
-use Rattle.pg_run_memory.specs.Bytes.{byte_of}
-use Rattle.pg_run_memory.specs.Memory.{byte_at}
+use Rattle.pg_run.specs.pg_run_memory.Bytes.{byte_of}
+use Rattle.pg_run.specs.pg_run_memory.Memory.{byte_at}
 use Rattle.pg_run.specs.State.{State}
 use Rattle.pg_law_effects.specs.Effect.{Effect, MadeThread, RequestEffect, Write, effect_of}
 

@@ -3,8 +3,8 @@ use Rattle.std.specs.Prelude.{◌≡◌, ℕ, suc, ◌==◌, ◌<◌, ℤ, List,
 use Rattle.pg_num.specs.declared.limits.TheConstants.{GUIDED_STEP_LIMIT}
 use Rattle.pg_ir.specs.declared.ids.InstrId.{InstrId}
 use Rattle.pg_ir.specs.Program.{NumberedProgram}
-use Rattle.pg_run_trace.specs.declared.turn.Turn.{Turn}
-use Rattle.pg_run_trace.specs.declared.step.Step.{Step}
+use Rattle.pg_run.specs.pg_run_trace.declared.turn.Turn.{Turn}
+use Rattle.pg_run.specs.pg_run_trace.declared.step.Step.{Step}
 use Rattle.pg_run.specs.State.{State}
 use Rattle.pg_run.specs.Runs.{Takes, event_of}
 use Rattle.pg_run.specs.Permitted.{has_turn}

@@ -2,7 +2,7 @@
 use Rattle.std.specs.Prelude.{◌≡◌, ℕ, ◌<◌, ◌^◌, false, List, [], ◌∷◌, IfSome, slice_get, slice_index}
 use Rattle.pg_ir.specs.declared.function.GlobalInfo.{GlobalInfo}
 use Rattle.pg_ir.specs.Program.{NumberedProgram}
-use Rattle.pg_run_memory.specs.Memory.{IsMemory}
+use Rattle.pg_run.specs.pg_run_memory.Memory.{IsMemory}
 use Rattle.pg_run_thread.specs.LocalState.{LocalState, fresh}
 use Rattle.pg_run.specs.State.{State}
 use Rattle.pg_run.specs.Machine.{IsMachine}

@@ -1,11 +1,11 @@
 -- What a step tells, whatever it leaves, and how that tells its effect.
 use Rattle.std.specs.Prelude.{◌≡◌, ℕ, Bool, true, false, Option, Some, None, Result, Ok, Err}
 use Rattle.pg_ir.specs.declared.request.TrapName.{TrapName}
-use Rattle.pg_run_trace.specs.declared.step.Access.{Access}
-use Rattle.pg_run_trace.specs.declared.step.Step.{Step}
-use Rattle.pg_run_trace.specs.declared.step.StepKind.{StepKind}
-use Rattle.pg_run_trace.specs.declared.step.StepKind.TheVariants as told
-use Rattle.pg_run_trace.specs.Steps.{range_of}
+use Rattle.pg_run.specs.pg_run_trace.declared.step.Access.{Access}
+use Rattle.pg_run.specs.pg_run_trace.declared.step.Step.{Step}
+use Rattle.pg_run.specs.pg_run_trace.declared.step.StepKind.{StepKind}
+use Rattle.pg_run.specs.pg_run_trace.declared.step.StepKind.TheVariants as told
+use Rattle.pg_run.specs.pg_run_trace.Steps.{range_of}
 use Rattle.pg_run.specs.MachineStep.{Stepped, Did, Trapped}
 use Rattle.pg_law_effects.specs.Effect.{Effect}
 

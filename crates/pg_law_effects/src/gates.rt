@@ -3,7 +3,7 @@
 ghost use Rattle.std.specs.Prelude.{◌≡◌, ℕ, ℤ, List, map};
 ghost use Rattle.pg_ir.specs.declared.ids.InstrId.{InstrId};
 ghost use Rattle.pg_ir.specs.Program.{NumberedProgram};
-ghost use Rattle.pg_run_trace.specs.declared.step.Step.{Step};
+ghost use Rattle.pg_run.specs.pg_run_trace.declared.step.Step.{Step};
 ghost use Rattle.pg_run.specs.State.{State, initial};
 ghost use Rattle.pg_run.specs.MachineStep.{step};
 ghost use Rattle.pg_run.specs.Rotation.{rotation_of};

@@ -7,3 +7,5 @@ pub mod permitted;
 pub mod reached;
 pub mod runs;
 pub mod views;
+
+pub use pg_run;

@@ -3,8 +3,8 @@
 ghost use Rattle.std.specs.Prelude.{◌≡◌, ◌≢◌, ◌↔◌, ◌+◌, ◌++◌, ◌∷◌, [], ℕ, ℤ, List};
 ghost use Rattle.pg_ir.specs.declared.ids.InstrId.{InstrId};
 ghost use Rattle.pg_ir.specs.Program.{NumberedProgram};
-ghost use Rattle.pg_run_trace.specs.declared.turn.Turn.{Turn};
-ghost use Rattle.pg_run_trace.specs.declared.step.Step.{Step};
+ghost use Rattle.pg_run.specs.pg_run_trace.declared.turn.Turn.{Turn};
+ghost use Rattle.pg_run.specs.pg_run_trace.declared.step.Step.{Step};
 ghost use Rattle.pg_run.specs.State.{State, initial};
 ghost use Rattle.pg_run.specs.Runs.{steps_of};
 ghost use Rattle.pg_run.specs.Guided.{guided_of};

@@ -4,8 +4,8 @@ ghost use Rattle.std.specs.Prelude.{◌≡◌, ◌↔◌, ◌++◌, ◌∷◌, �
 ghost use Rattle.pg_num.specs.declared.layout.TheConstants.{GRANULE_COUNT};
 ghost use Rattle.pg_ir.specs.declared.ids.InstrId.{InstrId};
 ghost use Rattle.pg_ir.specs.Program.{NumberedProgram};
-ghost use Rattle.pg_run_objects.specs.Sync.{over};
-ghost use Rattle.pg_run_trace.specs.declared.step.Step.{Step};
+ghost use Rattle.pg_run.specs.pg_run_objects.Sync.{over};
+ghost use Rattle.pg_run.specs.pg_run_trace.declared.step.Step.{Step};
 ghost use Rattle.pg_run.specs.State.{State};
 ghost use Rattle.pg_run.specs.Runs.{IsRun};
 ghost use Rattle.pg_law_effects.specs.Effect.{effect, effect_of};

@@ -4,7 +4,7 @@
 ghost use Rattle.std.specs.Prelude.{◌≡◌, ◌<◌, ℕ, ℤ, List, length, true};
 ghost use Rattle.pg_ir.specs.declared.ids.InstrId.{InstrId};
 ghost use Rattle.pg_ir.specs.Program.{NumberedProgram};
-ghost use Rattle.pg_run_trace.specs.declared.step.Step.{Step};
+ghost use Rattle.pg_run.specs.pg_run_trace.declared.step.Step.{Step};
 ghost use Rattle.pg_run.specs.State.{State};
 ghost use Rattle.pg_run.specs.MachineStep.{Did, ready, step};
 ghost use Rattle.pg_law_effects.specs.Effect.{effect_of};

@@ -16,8 +16,8 @@ use Rattle.pg_region_paths.proofs.Elements.{here, there, none_in}
 use Rattle.pg_region.specs.declared.region.Region.{Region}
 use Rattle.pg_run_thread.specs.LocalState.{Frame, LocalState}
 use Rattle.pg_run.specs.State.{State}
-use Rattle.pg_slice_rules.specs.Moments.{Moment, number_in}
-use Rattle.pg_slice_rules.specs.Freeable.{FreeRegion, bounds_of}
+use Rattle.pg_slice_replay.specs.pg_slice_rules.Moments.{Moment, number_in}
+use Rattle.pg_slice_replay.specs.pg_slice_rules.Freeable.{FreeRegion, bounds_of}
 use Rattle.pg_law_instances.specs.Alike.{IsAlike, IsAlikeBranch, recorded_registers}
 use Rattle.pg_law_instances.specs.Free.{instance_of}
 use Rattle.pg_law_instances.specs.Inside.{IsAtBranch, registers_by}

@@ -38,8 +38,8 @@ use Rattle.pg_num.specs.Inputs.{input_at}
 use Rattle.pg_run.proofs.StepsBegin.{next_is, ready_acts}
 use Rattle.pg_run.proofs.Threads.{set_own, set_other, set_length, last_other}
 use Rattle.pg_run.specs.Locality.{IfDid}
-use Rattle.pg_law_effects.specs.Effect.{answer_to, effect, effect_of, locals_with, request_effect, local_set, own_after}
-use Rattle.pg_law_effects.proofs.StepEffects.{has_effect}
+use Rattle.pg_slice_replay.specs.pg_law_effects.Effect.{answer_to, effect, effect_of, locals_with, request_effect, local_set, own_after}
+use Rattle.pg_slice_replay.proofs.of_pg_law_effects.StepEffects.{has_effect}
 use Rattle.pg_law_instances.specs.Moves.{Moves, RequestMoves, IsPlacedAt, IsLoad, IsStore}
 use Rattle.pg_law_instances.proofs.CallChanges.{Outcome, op_outcome, running}
 use Rattle.pg_ir.specs.declared.library_call.LibraryCall.{LibraryCall}

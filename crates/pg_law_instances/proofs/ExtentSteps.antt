@@ -28,10 +28,10 @@ use Rattle.pg_run_trace.specs.declared.step.StepKind.TheVariants as told
 use Rattle.pg_run.specs.State.{State}
 use Rattle.pg_run.specs.MachineStep.{is_gated, library_told, op_told}
 use Rattle.pg_run.specs.Runs.{IsRun}
-use Rattle.pg_slice_rules.specs.Moments.{Moment}
-use Rattle.pg_slice_rules.specs.Extents.{Extent, ends}
-use Rattle.pg_slice_rules.specs.Freeable.{FreeRegion, Regions}
-use Rattle.pg_slice_rules.specs.Known.{Seen, is_branch, Reference}
+use Rattle.pg_slice_replay.specs.pg_slice_rules.Moments.{Moment}
+use Rattle.pg_slice_replay.specs.pg_slice_rules.Extents.{Extent, ends}
+use Rattle.pg_slice_replay.specs.pg_slice_rules.Freeable.{FreeRegion, Regions}
+use Rattle.pg_slice_replay.specs.pg_slice_rules.Known.{Seen, is_branch, Reference}
 use Rattle.pg_law_instances.specs.Free.{instance_of}
 use Rattle.pg_law_instances.specs.Inside.{Instance, IsBottom, IsBranch, IsInside, Joins, edge_at as instr_edge, edge_taken, next_edge, region_set}
 use Rattle.pg_law_least.specs.Keeps.{depth_of, edge_at, is_branching}

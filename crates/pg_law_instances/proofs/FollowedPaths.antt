@@ -19,7 +19,7 @@ use Rattle.pg_region_paths.specs.Followed as followed
 use Rattle.pg_region_paths.specs.Followed.{Followed, followed_from, cell_at, cell_in, root_value}
 use Rattle.pg_run_thread.specs.Operands.{operand, number_at, optional_operand, given}
 use Rattle.pg_run_thread.specs.Compute.{index_bytes, moved_along}
-use Rattle.pg_slice_rules.specs.Freeable.{bounds_of}
+use Rattle.pg_slice_replay.specs.pg_slice_rules.Freeable.{bounds_of}
 use Rattle.pg_law_instances.specs.Leads.{IsWithin, IsMoved}
 use Rattle.pg_law_instances.proofs.PointerMoves.{bounds_moved, moved_moved}
 

@@ -12,9 +12,9 @@ use Rattle.pg_region_accesses.specs.Accesses.{RootedList}
 use Rattle.pg_region_paths.proofs.Elements.{here, there, cases, none_in}
 use Rattle.pg_region.specs.declared.region.Region.{Region}
 use Rattle.pg_region.specs.Regions.{flow_of, IsRegion, RegionOf}
-use Rattle.pg_slice_rules.specs.Moments.{Moment, number_in, registers_in}
-use Rattle.pg_slice_rules.specs.Freeable.{BranchRegion, FreeAccess, FreeRegion, Regions, RegionAccess, accesses_at, if_apart, region_at, stores_on}
-use Rattle.pg_slice_rules.specs.Freeable as free
+use Rattle.pg_slice_replay.specs.pg_slice_rules.Moments.{Moment, number_in, registers_in}
+use Rattle.pg_slice_replay.specs.pg_slice_rules.Freeable.{BranchRegion, FreeAccess, FreeRegion, Regions, RegionAccess, accesses_at, if_apart, region_at, stores_on}
+use Rattle.pg_slice_replay.specs.pg_slice_rules.Freeable as free
 use Rattle.pg_law_instances.specs.Inside.{registers_by}
 use Rattle.pg_slice_replay.specs.OfRegions.{AreRegions, branch_region, free_access, may_set}
 use Rattle.pg_law_instances.proofs.ControlFlow.{edge_fits}

@@ -20,9 +20,9 @@ use Rattle.pg_region.proofs.EdgesBeforeJoin.{edges_stay}
 use Rattle.pg_run_thread.specs.LocalState.{Frame, LocalState}
 use Rattle.pg_run_trace.specs.Races.{share}
 use Rattle.pg_run.specs.State.{State}
-use Rattle.pg_slice_rules.specs.Moments.{Moment, number_in, registers_in}
-use Rattle.pg_slice_rules.specs.Freeable as free
-use Rattle.pg_slice_rules.specs.Freeable.{FreeAccess, FreeRegion, RegionAccess, accesses_at, bounds_of, loads_from, stores_on}
+use Rattle.pg_slice_replay.specs.pg_slice_rules.Moments.{Moment, number_in, registers_in}
+use Rattle.pg_slice_replay.specs.pg_slice_rules.Freeable as free
+use Rattle.pg_slice_replay.specs.pg_slice_rules.Freeable.{FreeAccess, FreeRegion, RegionAccess, accesses_at, bounds_of, loads_from, stores_on}
 use Rattle.pg_law_instances.specs.Leads.{Leads}
 use Rattle.pg_law_instances.specs.Inside.{Instance, IsQuietSet, IsAtBranch, IsBranch, AreApart, region_set, registers_by}
 use Rattle.pg_slice_replay.specs.OfRegions.{free_access}

@@ -29,7 +29,7 @@ use Rattle.pg_region_summaries.proofs.BlockSpans.{has_block}
 use Rattle.pg_region.specs.declared.region.Region.{Region}
 use Rattle.pg_region.specs.Regions.{IsJoin}
 use Rattle.pg_run_thread.specs.LocalState.{Frame}
-use Rattle.pg_slice_rules.specs.Freeable.{FreeAccess, bounds_of}
+use Rattle.pg_slice_replay.specs.pg_slice_rules.Freeable.{FreeAccess, bounds_of}
 use Rattle.pg_law_instances.specs.Leads.{IsLoaded, IsReached, IsWithin, Leads, KeepsCells}
 use Rattle.pg_law_instances.specs.Inside.{Instance, QuietSet, IsQuietSet, StandsIn, registers_by}
 use Rattle.pg_law_instances.proofs.ControlFlow.{walk_fits}

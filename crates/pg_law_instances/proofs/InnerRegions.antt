@@ -16,7 +16,7 @@ use Rattle.pg_region.proofs.NestedRegions.{regions_nest}
 use Rattle.pg_run_thread.specs.LocalState.{Frame, LocalState}
 use Rattle.pg_run.specs.State.{State}
 use Rattle.pg_run.specs.MachineStep.{is_gated}
-use Rattle.pg_slice_rules.specs.Freeable.{FreeRegion, bounds_of}
+use Rattle.pg_slice_replay.specs.pg_slice_rules.Freeable.{FreeRegion, bounds_of}
 use Rattle.pg_law_instances.specs.Free.{instance_of}
 use Rattle.pg_law_instances.specs.Inner.{GoesOnInside, LiesWithin}
 use Rattle.pg_law_instances.specs.Inside.{Instance, IsBottom, Stands, region_set, registers_by}

@@ -26,8 +26,8 @@ use Rattle.pg_run.specs.State.{State}
 use Rattle.pg_run.specs.MachineStep.{Did, is_gated, ready, step}
 use Rattle.pg_run.specs.Runs.{IsRun}
 use Rattle.pg_run.proofs.StepsKeepStates.{all_at}
-use Rattle.pg_law_effects.specs.Reached.{IsReached}
-use Rattle.pg_law_effects.proofs.ReachedStates.{reached_step}
+use Rattle.pg_slice_replay.specs.pg_law_effects.Reached.{IsReached}
+use Rattle.pg_slice_replay.proofs.of_pg_law_effects.ReachedStates.{reached_step}
 use Rattle.pg_law_instances.specs.Inside.{Instance, IsInside, Joins}
 use Rattle.pg_law_instances.specs.Moves.{IsLoad, IsStore, IsPlacedAt}
 use Rattle.pg_law_instances.specs.Stays.{CanStepInside, StaysInside, TellsWithin}

@@ -18,13 +18,13 @@ use Rattle.pg_run_trace.specs.declared.step.StepKind.TheVariants as told
 use Rattle.pg_run_trace.specs.Kinds.{kind_of}
 use Rattle.pg_run.specs.State.{State}
 use Rattle.pg_run.proofs.Threads.{set_length}
-use Rattle.pg_slice_rules.specs.Moments.{Moment, instr_in, thread_in}
-use Rattle.pg_slice_rules.specs.Extents.{Extent, is_live, open_after}
-use Rattle.pg_slice_rules.specs.Freeable.{FreeRegion}
-use Rattle.pg_slice_rules.specs.SymbolicValues.{Symbolic, unset}
-use Rattle.pg_slice_rules.specs.Known as known
-use Rattle.pg_slice_rules.specs.Known.{Reference, SymbolicState, SymbolicThread, after_event, after_op, after_step, edge_of, fresh_thread, live_after, live_by, no_thread, on_thread, region_of}
-use Rattle.pg_slice_rules.specs.Known.{thread_of, threads_after, under_top, with_extents, with_top}
+use Rattle.pg_slice_replay.specs.pg_slice_rules.Moments.{Moment, instr_in, thread_in}
+use Rattle.pg_slice_replay.specs.pg_slice_rules.Extents.{Extent, is_live, open_after}
+use Rattle.pg_slice_replay.specs.pg_slice_rules.Freeable.{FreeRegion}
+use Rattle.pg_slice_replay.specs.pg_slice_rules.SymbolicValues.{Symbolic, unset}
+use Rattle.pg_slice_replay.specs.pg_slice_rules.Known as known
+use Rattle.pg_slice_replay.specs.pg_slice_rules.Known.{Reference, SymbolicState, SymbolicThread, after_event, after_op, after_step, edge_of, fresh_thread, live_after, live_by, no_thread, on_thread, region_of}
+use Rattle.pg_slice_replay.specs.pg_slice_rules.Known.{thread_of, threads_after, under_top, with_extents, with_top}
 use Rattle.pg_law_least.specs.Keeps.{every}
 use Rattle.pg_run_trace.specs.Steps.{range_of}
 use Rattle.pg_law_instances.specs.Moves.{GoesAlong, GoesBack, GoesInto, GoesPast, Moves, RequestMoves, IsLoad, IsStore, IsPlacedAt}

@@ -29,3 +29,4 @@ pub mod ReferenceExtents
 pub mod InnerRegions
 pub mod AlikePaths
 pub mod FirstInstance
+pub use Rattle.pg_law_least.proofs as of_pg_law_least

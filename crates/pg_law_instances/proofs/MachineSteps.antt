@@ -24,8 +24,8 @@ use Rattle.pg_run.specs.MachineStep.{Did, answered, instr_told, is_gated, kind_t
 use Rattle.pg_num.specs.Inputs.{input_at}
 use Rattle.pg_run.proofs.StepsBegin.{next_is, ready_acts}
 use Rattle.pg_run.proofs.Threads.{set_own, set_other}
-use Rattle.pg_slice_rules.specs.Freeable.{bounds_of}
-use Rattle.pg_slice_rules.specs.SymbolicValues.{is_within}
+use Rattle.pg_slice_replay.specs.pg_slice_rules.Freeable.{bounds_of}
+use Rattle.pg_slice_replay.specs.pg_slice_rules.SymbolicValues.{is_within}
 use Rattle.pg_num.specs.declared.layout.TheConstants.{MEMORY_BYTES}
 use Rattle.pg_law_instances.specs.Leads.{IsWithin, KeepsCells}
 use Rattle.pg_law_instances.specs.Inside.{Instance, AreApart}

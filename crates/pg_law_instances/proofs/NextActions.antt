@@ -42,7 +42,7 @@ use Rattle.pg_run_thread.specs.Step as step
 use Rattle.pg_run_thread.specs.Step.{op_action, op_after, on_all, on_place, placed, are_set, call_action, return_action, stepped, entered, bytes_of}
 use Rattle.pg_run_thread.specs.Step.{result_number, target_in, total, under_top}
 use Rattle.pg_run.proofs.Actions.{OfTraps, on_value_is, on_all_is, edge_is, call_is, divided_is}
-use Rattle.pg_slice_rules.specs.Freeable.{bounds_of}
+use Rattle.pg_slice_replay.specs.pg_slice_rules.Freeable.{bounds_of}
 use Rattle.pg_law_instances.specs.Leads.{IsReached, IsWithin, Leads, HasPath, KeepsCells}
 use Rattle.pg_law_instances.specs.Inside.{Instance, IsQuietSet, Stands, Waits, edge_taken, region_set}
 use Rattle.pg_law_instances.proofs.FollowedPaths.{within_bounds, some_bytes, first_byte}

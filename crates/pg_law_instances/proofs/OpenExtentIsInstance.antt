@@ -24,10 +24,10 @@ use Rattle.pg_run_trace.specs.declared.step.Step.{Step}
 use Rattle.pg_run.specs.State.{State}
 use Rattle.pg_run.specs.MachineStep.{is_gated}
 use Rattle.pg_run.specs.Runs.{IsRun}
-use Rattle.pg_law_effects.specs.Reached.{IsReached}
-use Rattle.pg_slice_rules.specs.Extents.{Extent}
-use Rattle.pg_slice_rules.specs.Freeable.{FreeAccess, FreeRegion, bounds_of}
-use Rattle.pg_slice_rules.specs.SymbolicValues.{is_within}
+use Rattle.pg_slice_replay.specs.pg_law_effects.Reached.{IsReached}
+use Rattle.pg_slice_replay.specs.pg_slice_rules.Extents.{Extent}
+use Rattle.pg_slice_replay.specs.pg_slice_rules.Freeable.{FreeAccess, FreeRegion, bounds_of}
+use Rattle.pg_slice_replay.specs.pg_slice_rules.SymbolicValues.{is_within}
 use Rattle.pg_law_instances.specs.Free.{instance_of}
 use Rattle.pg_law_instances.specs.Inside.{Instance, IsBottom, IsInside, Stands, edge_taken, may_set, phis_set, region_set, IsQuietSet}
 use Rattle.pg_law_least.specs.Keeps.{may_write}

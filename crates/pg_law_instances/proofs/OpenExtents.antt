@@ -20,12 +20,12 @@ use Rattle.pg_run_trace.specs.Steps.{event_of, happening_in, range_of, turn_at}
 use Rattle.pg_run.specs.State.{State}
 use Rattle.pg_run.specs.MachineStep.{is_gated}
 use Rattle.pg_run.specs.Runs.{IsRun}
-use Rattle.pg_slice_rules.specs.Moments.{Moment, instr_in}
-use Rattle.pg_slice_rules.specs.Extents.{Extent, begun, ends, open_after}
-use Rattle.pg_slice_rules.specs.Freeable.{FreeRegion, Regions, bounds_of, region_at}
-use Rattle.pg_slice_rules.specs.Known.{Reference, Seen, is_branch, region_of}
-use Rattle.pg_slice_rules.specs.Rules.{kind_in}
-use Rattle.pg_slice_rules.specs.SymbolicValues.{is_within}
+use Rattle.pg_slice_replay.specs.pg_slice_rules.Moments.{Moment, instr_in}
+use Rattle.pg_slice_replay.specs.pg_slice_rules.Extents.{Extent, begun, ends, open_after}
+use Rattle.pg_slice_replay.specs.pg_slice_rules.Freeable.{FreeRegion, Regions, bounds_of, region_at}
+use Rattle.pg_slice_replay.specs.pg_slice_rules.Known.{Reference, Seen, is_branch, region_of}
+use Rattle.pg_slice_replay.specs.pg_slice_rules.Rules.{kind_in}
+use Rattle.pg_slice_replay.specs.pg_slice_rules.SymbolicValues.{is_within}
 use Rattle.pg_law_least.specs.Keeps.{AreStacked, KeepsTo, MaySetPhis, StoresBy, depth_of, edge_at, instr_of, is_branching, is_store, MaySet}
 use Rattle.pg_law_instances.specs.Leads.{IsWithin}
 use Rattle.pg_law_instances.specs.Moves.{IsLoad, IsStore, IsPlacedAt}

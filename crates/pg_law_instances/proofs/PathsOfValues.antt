@@ -23,7 +23,7 @@ use Rattle.pg_region_accesses.specs.declared.rooted.Rooted.{Rooted}
 use Rattle.pg_region_paths.proofs.Elements.{here, there, cases}
 use Rattle.pg_run_thread.specs.Operands.{number_at}
 use Rattle.pg_run_thread.specs.Compute.{moved_along}
-use Rattle.pg_slice_rules.specs.Freeable.{FreeAccess, bounds_of}
+use Rattle.pg_slice_replay.specs.pg_slice_rules.Freeable.{FreeAccess, bounds_of}
 use Rattle.pg_law_instances.specs.Leads.{IsLoaded, IsReached, IsWithin, Leads, IsMoved, HasPath, KeepsCells}
 use Rattle.pg_law_instances.proofs.PointerMoves.{bounds_moved, moved_twice}
 use Rattle.pg_law_instances.proofs.FollowedPaths.{within_memory, within_bounds, some_bytes, same_bounds, gep_moved, FollowsBoth, follows_both, LoadsFirst, loads_first, loads_again}

@@ -3,7 +3,7 @@ use Rattle.std.proofs.Common.{◌≡◌, ℕ, ℤ, pos, arith, refl}
 use Rattle.pg_num.specs.Pointers.{moved_by}
 use Rattle.pg_num.proofs.Moves.{start-moved_by, length-moved_by}
 use Rattle.pg_region_paths.specs.Paths.{moved_offset}
-use Rattle.pg_slice_rules.specs.Freeable.{bounds_of}
+use Rattle.pg_slice_replay.specs.pg_slice_rules.Freeable.{bounds_of}
 
 pub bounds_moved : (word : ℕ) (delta : ℤ) → bounds_of (moved_by word delta) ≡ bounds_of word
 bounds_moved word delta = let a = start-moved_by word delta in let b = length-moved_by word delta in rw (a, b) refl

@@ -33,7 +33,7 @@ use Rattle.pg_run_thread.specs.LocalState.{Frame}
 use Rattle.pg_run_thread.specs.Operands.{operand, flat, pointer_to}
 use Rattle.pg_run_thread.specs.EdgeStep.{is_set}
 use Rattle.pg_run_thread.specs.Step.{entered, are_set}
-use Rattle.pg_slice_rules.specs.Freeable.{bounds_of}
+use Rattle.pg_slice_replay.specs.pg_slice_rules.Freeable.{bounds_of}
 use Rattle.pg_law_instances.specs.Leads.{HasPath, Leads, IsReached}
 use Rattle.pg_law_instances.specs.Inside.{Instance, QuietSet, IsQuietSet, StandsIn, registers_by}
 use Rattle.pg_law_instances.proofs.FramePlaces.{gathered_part}

@@ -31,12 +31,12 @@ use Rattle.pg_run.specs.Follow.{Exits, following_of}
 use Rattle.pg_run.specs.Runs.{IsRun}
 use Rattle.pg_run.proofs.StepsBegin.{ready_made}
 use Rattle.pg_run.proofs.Threads.{set_length}
-use Rattle.pg_law_effects.specs.Reached.{HoldBytes, IsReached}
-use Rattle.pg_law_effects.proofs.ReachedStates.{present, reached_first, reached_step}
-use Rattle.pg_slice_rules.specs.Moments.{Moment, calls_of, instr_in, moments_from, moments_of, state_after, thread_in}
-use Rattle.pg_slice_rules.specs.Extents.{Extent, is_live, begun}
-use Rattle.pg_slice_rules.specs.Freeable.{FreeRegion, Regions, bounds_of}
-use Rattle.pg_slice_rules.specs.Known.{Reference, SymbolicState, Seen, after_step, region_of, seen_from, start_of, thread_of, SymbolicThread}
+use Rattle.pg_slice_replay.specs.pg_law_effects.Reached.{HoldBytes, IsReached}
+use Rattle.pg_slice_replay.proofs.of_pg_law_effects.ReachedStates.{present, reached_first, reached_step}
+use Rattle.pg_slice_replay.specs.pg_slice_rules.Moments.{Moment, calls_of, instr_in, moments_from, moments_of, state_after, thread_in}
+use Rattle.pg_slice_replay.specs.pg_slice_rules.Extents.{Extent, is_live, begun}
+use Rattle.pg_slice_replay.specs.pg_slice_rules.Freeable.{FreeRegion, Regions, bounds_of}
+use Rattle.pg_slice_replay.specs.pg_slice_rules.Known.{Reference, SymbolicState, Seen, after_step, region_of, seen_from, start_of, thread_of, SymbolicThread}
 use Rattle.pg_law_least.specs.Keeps as keeps_of
 use Rattle.pg_law_least.specs.Keeps.{ExtentsKeep, depth_of, edge_at, every, instr_of, open_before}
 use Rattle.pg_slice_replay.specs.OfRegions.{AreRegions}
@@ -49,7 +49,7 @@ use Rattle.pg_law_instances.proofs.ExtentSteps.{took_it}
 use Rattle.pg_law_instances.proofs.KnownThreads.{Match, Walked, adds_by, lives_event, lives_plain, walked_by, Lives}
 use Rattle.pg_law_instances.proofs.NextStepsOfThread.{exited}
 use Rattle.pg_law_instances.proofs.DoneSteps.{Plain, Requests, Took}
-use Rattle.pg_slice_rules.specs.SymbolicValues.{is_within}
+use Rattle.pg_slice_replay.specs.pg_slice_rules.SymbolicValues.{is_within}
 use Rattle.pg_run_trace.specs.declared.step.Access.{Access}
 use Rattle.std.proofs.lemmas.Option.{slice_get_within}
 

@@ -30,13 +30,13 @@ use Rattle.pg_run_trace.specs.Steps.{happening_in, range_of, access_kind}
 use Rattle.pg_run.specs.State.{State}
 use Rattle.pg_run.specs.MachineStep.{Did, is_gated, ready, step}
 use Rattle.pg_run.specs.Runs.{IsRun}
-use Rattle.pg_law_effects.specs.Reached.{IsReached}
-use Rattle.pg_slice_rules.specs.Moments.{Moment, instr_in, number_in, registers_in}
-use Rattle.pg_slice_rules.specs.Extents.{Extent, edge_by, edge_in}
-use Rattle.pg_slice_rules.specs.Freeable.{FreeAccess, FreeRegion, Regions, bounds_of, region_at}
-use Rattle.pg_slice_rules.specs.Known.{Reference, Seen, caller_target, edge_of, is_branch, region_of, target_of}
-use Rattle.pg_slice_rules.specs.Rules.{kind_in}
-use Rattle.pg_slice_rules.specs.SymbolicValues.{is_within}
+use Rattle.pg_slice_replay.specs.pg_law_effects.Reached.{IsReached}
+use Rattle.pg_slice_replay.specs.pg_slice_rules.Moments.{Moment, instr_in, number_in, registers_in}
+use Rattle.pg_slice_replay.specs.pg_slice_rules.Extents.{Extent, edge_by, edge_in}
+use Rattle.pg_slice_replay.specs.pg_slice_rules.Freeable.{FreeAccess, FreeRegion, Regions, bounds_of, region_at}
+use Rattle.pg_slice_replay.specs.pg_slice_rules.Known.{Reference, Seen, caller_target, edge_of, is_branch, region_of, target_of}
+use Rattle.pg_slice_replay.specs.pg_slice_rules.Rules.{kind_in}
+use Rattle.pg_slice_replay.specs.pg_slice_rules.SymbolicValues.{is_within}
 use Rattle.pg_law_instances.specs.Inside.{Instance, IsBottom, Stands, edge_taken, region_set, registers_by}
 use Rattle.pg_law_least.specs.Keeps.{KeepsTo, MaySet, MaySetPhis, Returns, StoresBy, depth_of, edge_at, instr_of, is_store, may_write}
 use Rattle.pg_law_instances.specs.Leads.{IsReached as LeadsTo}

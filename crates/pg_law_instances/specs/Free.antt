@@ -6,7 +6,7 @@ use Rattle.pg_region_accesses.specs.Accesses.{RootedList}
 use Rattle.pg_region.specs.declared.region.Region.{Region}
 use Rattle.pg_run_thread.specs.LocalState.{Frame, LocalState}
 use Rattle.pg_run.specs.State.{State}
-use Rattle.pg_slice_rules.specs.Freeable.{FreeRegion}
+use Rattle.pg_slice_replay.specs.pg_slice_rules.Freeable.{FreeRegion}
 use Rattle.pg_law_instances.specs.Inside.{Instance}
 
 -- the instance of a region that a thread begins in state s, its branch's frame on top of lower ones, where the accesses lead

@@ -15,8 +15,8 @@ use Rattle.pg_run_trace.specs.declared.step.Step.{Step}
 use Rattle.pg_run.specs.State.{State}
 use Rattle.pg_run.specs.MachineStep.{is_gated}
 use Rattle.pg_run.specs.Runs.{IsRun}
-use Rattle.pg_law_effects.specs.Reached.{IsReached}
-use Rattle.pg_slice_rules.specs.Freeable.{FreeRegion, bounds_of}
+use Rattle.pg_slice_replay.specs.pg_law_effects.Reached.{IsReached}
+use Rattle.pg_slice_replay.specs.pg_slice_rules.Freeable.{FreeRegion, bounds_of}
 use Rattle.pg_law_instances.specs.Free.{instance_of}
 use Rattle.pg_law_instances.specs.Inside.{Instance, IsInside, registers_by}
 use Rattle.pg_law_instances.specs.Leads.{IsReached as LeadsTo}

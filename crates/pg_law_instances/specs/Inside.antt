@@ -22,7 +22,7 @@ use Rattle.pg_run_thread.specs.EdgeStep.{case_of}
 use Rattle.pg_run_thread.specs.Step.{top_registers, under_top}
 use Rattle.pg_run_thread.specs.Told.{id_of}
 use Rattle.pg_run_thread.specs.States.{Calls}
-use Rattle.pg_slice_rules.specs.Freeable.{FreeAccess}
+use Rattle.pg_slice_replay.specs.pg_slice_rules.Freeable.{FreeAccess}
 use Rattle.pg_law_instances.specs.Leads.{IsLoaded, IsReached, Leads, HasPath}
 
 -- ---- instances

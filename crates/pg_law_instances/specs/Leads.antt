@@ -8,7 +8,7 @@ use Rattle.pg_region_paths.specs.declared.path.Path.{Path}
 use Rattle.pg_region_paths.specs.Paths.{root_path_of}
 use Rattle.pg_region_paths.specs.Followed.{Followed, followed}
 use Rattle.pg_region_accesses.specs.declared.rooted.Rooted.{Rooted}
-use Rattle.pg_slice_rules.specs.Freeable.{FreeAccess, bounds_of}
+use Rattle.pg_slice_replay.specs.pg_slice_rules.Freeable.{FreeAccess, bounds_of}
 
 -- ---- recorded bounds
 

@@ -12,7 +12,7 @@ use Rattle.pg_ir.specs.Edges.{is_terminator, targets_of}
 use Rattle.pg_run_thread.specs.LocalState.{Frame}
 use Rattle.pg_run_thread.specs.States.{CallsFunction}
 use Rattle.pg_run_thread.specs.Step.{moved, returned}
-use Rattle.pg_slice_rules.specs.Freeable.{bounds_of}
+use Rattle.pg_slice_replay.specs.pg_slice_rules.Freeable.{bounds_of}
 use Rattle.pg_law_instances.specs.Leads.{IsWithin}
 use Rattle.pg_law_instances.specs.Inside.{edge_taken}
 

@@ -9,9 +9,9 @@ use Rattle.pg_run_trace.specs.declared.step.Step.{Step}
 use Rattle.pg_run_trace.specs.declared.turn.Turn.{Turn}
 use Rattle.pg_run.specs.Follow.{Exits, following_of}
 use Rattle.pg_run.specs.MachineStep.{is_gated}
-use Rattle.pg_law_effects.specs.Reached.{HoldBytes}
-use Rattle.pg_slice_rules.specs.Freeable.{Regions}
-use Rattle.pg_slice_rules.specs.Moments.{moments_of}
+use Rattle.pg_slice_replay.specs.pg_law_effects.Reached.{HoldBytes}
+use Rattle.pg_slice_replay.specs.pg_slice_rules.Freeable.{Regions}
+use Rattle.pg_slice_replay.specs.pg_slice_rules.Moments.{moments_of}
 use Rattle.pg_law_least.specs.Keeps.{ExtentsKeep}
 use Rattle.pg_slice_replay.specs.OfRegions.{AreRegions}
 

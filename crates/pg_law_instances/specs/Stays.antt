@@ -15,8 +15,8 @@ use Rattle.pg_run.specs.State.{State}
 use Rattle.pg_run.specs.MachineStep.{Did, is_gated, ready, step}
 use Rattle.pg_run.specs.Locality.{LeavesRest}
 use Rattle.pg_run.specs.Runs.{IsRun, Takes}
-use Rattle.pg_slice_rules.specs.Freeable.{FreeAccess, bounds_of}
-use Rattle.pg_slice_rules.specs.SymbolicValues.{is_within}
+use Rattle.pg_slice_replay.specs.pg_slice_rules.Freeable.{FreeAccess, bounds_of}
+use Rattle.pg_slice_replay.specs.pg_slice_rules.SymbolicValues.{is_within}
 use Rattle.pg_law_instances.specs.Leads.{IsReached, IsWithin, KeepsCells}
 use Rattle.pg_law_instances.specs.Inside.{Instance, IsInside, Joins, IsAtBranch}
 

@@ -7,8 +7,8 @@ use Rattle.pg_law_threads.specs.Intervals.{Timed}
 use Rattle.pg_law_threads.specs.Steps.{EachPair}
 use Rattle.pg_run_trace.specs.declared.step.Step.{Step}
 use Rattle.pg_run_trace.specs.Races.{recorded, timed_by}
-use Rattle.pg_run.specs.MachineStep.{step}
-use Rattle.pg_run.specs.State.{State, initial}
+use Rattle.pg_slice_rules.specs.pg_run.MachineStep.{step}
+use Rattle.pg_slice_rules.specs.pg_run.State.{State, initial}
 use Rattle.pg_law_threads.specs.Intervals.{owners}
 use Rattle.pg_law_threads.proofs.OwnTurns.{own_turns}
 use Rattle.pg_law_threads.proofs.TimedSteps.{low_high}

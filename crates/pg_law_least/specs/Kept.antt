@@ -1,6 +1,6 @@
 -- A reference run with steps in an extent: the second free region of the example with a root stores through its pointer.
 use Rattle.std.specs.Prelude.{ℕ, List, [], ◌∷◌, true, false, Option, Some, None}
-use Rattle.pg_run_memory.specs.Bytes.{with_bytes}
+use Rattle.pg_slice_rules.specs.pg_run_memory.Bytes.{with_bytes}
 use Rattle.pg_run_trace.specs.declared.turn.TurnKind.TheVariants as turns
 use Rattle.pg_run_trace.specs.declared.step.StepKind.{StepKind}
 use Rattle.pg_run_trace.specs.declared.step.StepKind.TheVariants as kinds

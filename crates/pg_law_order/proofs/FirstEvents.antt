@@ -11,7 +11,7 @@ use Rattle.pg_run_trace.specs.Races.{recorded, reply_in}
 use Rattle.pg_run_trace.specs.Steps.{event_of, events, happening_in, turn_at}
 use Rattle.pg_run.specs.Permitted.{has_turn}
 use Rattle.pg_run.proofs.GuidedRuns.{same_as_itself, same_number}
-use Rattle.pg_law_effects.specs.PermittedSteps.{turns_behind}
+use Rattle.pg_law_runs.specs.pg_law_effects.PermittedSteps.{turns_behind}
 use Rattle.pg_law_runs.specs.Cuts.{IsFrontOf, steps_by}
 use Rattle.pg_law_runs.specs.LastTurns.{until_last}
 use Rattle.pg_law_order.specs.Good.{replies_of}

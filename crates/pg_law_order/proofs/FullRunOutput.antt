@@ -16,9 +16,9 @@ use Rattle.pg_run.specs.MachineStep.{Did, Stepped, Trapped, happening_of, is_end
 use Rattle.pg_run.specs.Permitted.{has_turn}
 use Rattle.pg_run.specs.Runs.{event_of, events}
 use Rattle.pg_run.specs.State.{State, next_of}
-use Rattle.pg_law_effects.specs.Effect.{RequestEffect, effect, effect_of, printed_with, request_effect}
-use Rattle.pg_law_effects.proofs.StepsApart.{left_by}
-use Rattle.pg_law_effects.proofs.FullGuidedRunPermitted.{alone}
+use Rattle.pg_law_runs.specs.pg_law_effects.Effect.{RequestEffect, effect, effect_of, printed_with, request_effect}
+use Rattle.pg_law_runs.proofs.of_pg_law_effects.StepsApart.{left_by}
+use Rattle.pg_law_runs.proofs.of_pg_law_effects.FullGuidedRunPermitted.{alone}
 
 or_last : (a b : Bool) → b ≡ true → (a || b) ≡ true
 or_last true b e = refl

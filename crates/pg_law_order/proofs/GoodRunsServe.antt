@@ -13,7 +13,7 @@ use Rattle.pg_run.specs.Guided.{GuidedRun, guided_of}
 use Rattle.pg_run.specs.Permitted.{IsFull, IsPermitted, turns_left}
 use Rattle.pg_run.specs.State.{State}
 use Rattle.pg_run.proofs.GuidedRuns.{guided_is}
-use Rattle.pg_law_effects.proofs.FullGuidedRun.{full_is}
+use Rattle.pg_law_runs.proofs.of_pg_law_effects.FullGuidedRun.{full_is}
 use Rattle.pg_law_runs.specs.Cuts.{CanRun, IsOrderedFull}
 use Rattle.pg_law_runs.proofs.PermittedRuns as law
 use Rattle.pg_law_order.specs.Good.{IsGoodRun, replies_of, run_along}

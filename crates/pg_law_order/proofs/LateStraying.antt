@@ -16,10 +16,10 @@ use Rattle.pg_run.specs.Runs.{event_of, events}
 use Rattle.pg_run.proofs.StepsBegin.{ready_acts}
 use Rattle.pg_run.proofs.GuidedPermitted.{guided_permitted}
 use Rattle.pg_run.proofs.GuidedRuns.{guided_is, turn_is_itself}
-use Rattle.pg_law_effects.specs.PermittedSteps.{IsDue, MayTake}
-use Rattle.pg_law_effects.proofs.RunsByThreads.{is_going, same_runs}
-use Rattle.pg_law_effects.proofs.PermittedStepByStep.{permitted_more}
-use Rattle.pg_law_effects.proofs.ToldByStep.{event_is}
+use Rattle.pg_law_runs.specs.pg_law_effects.PermittedSteps.{IsDue, MayTake}
+use Rattle.pg_law_runs.proofs.of_pg_law_effects.RunsByThreads.{is_going, same_runs}
+use Rattle.pg_law_runs.proofs.of_pg_law_effects.PermittedStepByStep.{permitted_more}
+use Rattle.pg_law_runs.proofs.of_pg_law_effects.ToldByStep.{event_is}
 use Rattle.pg_law_runs.specs.Cuts.{CanRun, CanStep, IsOrderedFull}
 use Rattle.pg_law_runs.proofs.MaximalRuns.{not_ended}
 use Rattle.pg_law_runs.proofs.PermittedRuns as law

@@ -24,9 +24,9 @@ use Rattle.pg_run.specs.Runs.{IsRun, events, steps_of}
 use Rattle.pg_run.proofs.GuidedExits.{guided_exits}
 use Rattle.pg_run.proofs.GuidedPermitted.{guided_permitted}
 use Rattle.pg_run.proofs.GuidedRuns.{guided_is}
-use Rattle.pg_law_effects.specs.Gates.{marked, with_gates}
-use Rattle.pg_law_effects.proofs.FullGuidedRun.{full_is}
-use Rattle.pg_law_effects.proofs.OtherGates.{run_gated}
+use Rattle.pg_law_runs.specs.pg_law_effects.Gates.{marked, with_gates}
+use Rattle.pg_law_runs.proofs.of_pg_law_effects.FullGuidedRun.{full_is}
+use Rattle.pg_law_runs.proofs.of_pg_law_effects.OtherGates.{run_gated}
 use Rattle.pg_law_runs.specs.Cuts.{CanRun, EndsAs, IsOrderedAlong, IsOrderedFull}
 use Rattle.pg_law_runs.specs.Deeds.{Shared}
 use Rattle.pg_law_runs.specs.LastTurns.{IsRecorded}

@@ -1,6 +1,6 @@
 //! Each program can run on each input.
 ghost use Rattle.std.specs.Prelude.{ℕ, ◌<◌, ◌^◌, length, slice_index};
-ghost use Rattle.pg_law_effects.specs.Reached.{HoldBytes};
+ghost use Rattle.pg_law_runs.specs.pg_law_effects.Reached.{HoldBytes};
 ghost use Rattle.pg_law_runs.specs.Cuts.{CanRun};
 
 use pg_ir::Program;

@@ -3,8 +3,8 @@ use Rattle.std.proofs.Common.{◌≡◌, true, refl}
 use Rattle.pg_slice_rules.specs.declared.decision.Decision.TheVariants.{Pinned, Exact}
 use Rattle.pg_slice_rules.specs.Closed.{AreWithin, admits}
 use Rattle.pg_slice_rules.specs.Known.{Taken}
-use Rattle.pg_law_least.specs.Keeps.{ExtentsKeep, every}
-use Rattle.pg_law_least.proofs.SmallerAdmitsMore.{admits_more}
+use Rattle.pg_law_instances.specs.pg_law_least.Keeps.{ExtentsKeep, every}
+use Rattle.pg_law_instances.proofs.of_pg_law_least.SmallerAdmitsMore.{admits_more}
 use Rattle.pg_law_plan.specs.Units.{ReferenceRun, reference_of}
 use Rattle.pg_law_own_input.specs.OwnInput.{IsMachineRun}
 use Rattle.pg_law_own_input.proofs.KnownAlongRun.{all_admit}

@@ -43,7 +43,7 @@ use Rattle.pg_run.proofs.Actions.{barrier_init_is, call_is, create_is, divided_i
 use Rattle.pg_slice_rules.specs.Known.{Seen}
 use Rattle.pg_slice_rules.specs.Rules.{Need, Value as ValueNeed, Bounds as BoundsNeed, access_needs_by, address_index, checked, edge_tests, equal_to, event_needs, is_case, operand_of}
 use Rattle.pg_slice_rules.specs.Rules.{registers_before, same_bounds, value_needs_by, write_needs}
-use Rattle.pg_law_least.specs.Keeps.{every}
+use Rattle.pg_law_instances.specs.pg_law_least.Keeps.{every}
 use Rattle.pg_law_plan.specs.Likes.{AreLike, IsLike}
 use Rattle.pg_law_plan.proofs.LikeOperands.{argument_like}
 use Rattle.pg_law_plan.proofs.LikeRequests.{IsGiven as IsArgument, given_args}

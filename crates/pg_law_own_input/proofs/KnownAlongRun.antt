@@ -28,8 +28,8 @@ use Rattle.pg_slice_rules.specs.Extents.{Extent, is_live}
 use Rattle.pg_slice_rules.specs.Known.{SymbolicState, Seen, after_step, region_of, seen_from, seen_in, start_of, thread_of}
 use Rattle.pg_slice_rules.specs.Moments.{Moment, calls_of, instr_in, moments_from, thread_in}
 use Rattle.pg_slice_rules.specs.Rules.{asks_bounds, asks_values, has_region, footprints_in}
-use Rattle.pg_law_least.specs.Keeps.{every}
-use Rattle.pg_law_least.proofs.ClosedDecisions.{all_closed}
+use Rattle.pg_law_instances.specs.pg_law_least.Keeps.{every}
+use Rattle.pg_law_instances.proofs.of_pg_law_least.ClosedDecisions.{all_closed}
 use Rattle.pg_law_plan.specs.Likes.{IsCellLike, IsLike, StandLike, like}
 use Rattle.pg_law_plan.specs.Moves.{deed_moved}
 use Rattle.pg_law_plan.specs.Units.{PlanUnit, ReferenceRun, access_touch, behind, cell_known, deed_of, is_instance, is_written_in, reference_of, standing_of, turns_of, word_written, writes_cell}

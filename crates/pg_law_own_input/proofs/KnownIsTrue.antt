@@ -15,11 +15,11 @@ use Rattle.pg_slice_rules.specs.Known.{SymbolicState, Seen, Taken, seen_in, thre
 use Rattle.pg_slice_rules.specs.Moments.{Moment, calls_of, registers_in, thread_in}
 use Rattle.pg_slice_rules.specs.Rules.{registers_before}
 use Rattle.pg_slice_rules.specs.SymbolicValues.{OnInput, Symbolic, Known, unset}
-use Rattle.pg_law_least.specs.Keeps.{ExtentsKeep, every}
-use Rattle.pg_law_least.proofs.LikeValues.{Likes, likes_link}
-use Rattle.pg_law_least.proofs.AskedOfValues.{SeenLike}
-use Rattle.pg_law_least.proofs.EachStep.{run_like}
-use Rattle.pg_law_least.proofs.AlikeLists.{index_like}
+use Rattle.pg_law_instances.specs.pg_law_least.Keeps.{ExtentsKeep, every}
+use Rattle.pg_law_instances.proofs.of_pg_law_least.LikeValues.{Likes, likes_link}
+use Rattle.pg_law_instances.proofs.of_pg_law_least.AskedOfValues.{SeenLike}
+use Rattle.pg_law_instances.proofs.of_pg_law_least.EachStep.{run_like}
+use Rattle.pg_law_instances.proofs.of_pg_law_least.AlikeLists.{index_like}
 use Rattle.pg_law_plan.specs.Likes.{AreLike, IsLike}
 use Rattle.pg_law_plan.specs.Units.{ReferenceRun, reference_of}
 use Rattle.pg_law_plan.proofs.LikeOperands.{operand_like, unset_like}

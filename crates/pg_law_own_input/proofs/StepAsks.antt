@@ -17,14 +17,14 @@ use Rattle.pg_run.specs.MachineStep.{event_told, instr_told, kind_told, number_i
 use Rattle.pg_run.specs.State.{State, instr_of, next_of}
 use Rattle.pg_run.proofs.StepsBegin.{next_is}
 use Rattle.pg_law_effects.specs.Effect.{answer_to}
-use Rattle.pg_law_runs.proofs.StepRules.{next_fresh}
+use Rattle.pg_law_plan.proofs.of_pg_law_runs.StepRules.{next_fresh}
 use Rattle.pg_slice_rules.specs.Freeable.{FreeRegion}
 use Rattle.pg_slice_rules.specs.Known.{Seen, is_branch, region_of, thread_of}
 use Rattle.pg_slice_rules.specs.Moments.{calls_of, instr_in, registers_in, thread_in}
 use Rattle.pg_slice_rules.specs.Rules.{Need, access_needs_by, access_needs_in, asks_bounds, asks_values, bounds_needs, is_bound, kind_in, region_needs_in, registers_before, value_needs}
 use Rattle.pg_slice_rules.specs.Rules.{value_needs_by, value_needs_in}
 use Rattle.pg_slice_rules.specs.SymbolicValues.{Symbolic}
-use Rattle.pg_law_least.specs.Keeps.{every}
+use Rattle.pg_law_instances.specs.pg_law_least.Keeps.{every}
 use Rattle.pg_law_plan.specs.Likes.{AreLike, IsLike}
 use Rattle.pg_law_plan.specs.Units.{ReferenceRun, reference_of}
 use Rattle.pg_law_plan.proofs.EachUnit.{IsMet}

@@ -10,8 +10,8 @@ use Rattle.pg_slice_rules.specs.Known.{Seen, Taken, seen_in}
 use Rattle.pg_slice_rules.specs.Moments.{registers_in}
 use Rattle.pg_slice_rules.specs.Rules.{registers_before}
 use Rattle.pg_slice_rules.specs.SymbolicValues.{OnInput, Known, unset}
-use Rattle.pg_law_least.specs.Keeps.{ExtentsKeep, every}
-use Rattle.pg_law_runs.specs.Cuts.{CanRun}
+use Rattle.pg_law_instances.specs.pg_law_least.Keeps.{ExtentsKeep, every}
+use Rattle.pg_law_plan.specs.pg_law_runs.Cuts.{CanRun}
 use Rattle.pg_law_plan.specs.Units.{ReferenceRun, reference_of}
 
 -- steps of the machine on an input from its first state on, in any order of the threads

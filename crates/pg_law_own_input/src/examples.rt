@@ -6,7 +6,7 @@ ghost use Rattle.pg_slice_rules.specs.Counted.{counted};
 ghost use Rattle.pg_slice_rules.specs.Rooted.{rooted};
 ghost use Rattle.pg_slice_rules.specs.Sets.{taken};
 ghost use Rattle.pg_slice_rules.specs.Summed.{summed};
-ghost use Rattle.pg_law_least.specs.Keeps.{every};
+ghost use Rattle.pg_law_instances.specs.pg_law_least.Keeps.{every};
 
 /// A run on two zeros: its own input is admitted under no decisions, under its slice and under all; another one isn't,
 /// where the branch that chooses a root is pinned.

@@ -45,3 +45,4 @@ pub mod UnitTurns
 pub mod WordsBeforeUnits
 pub mod ThreadWords
 pub mod UnitWrites
+pub use Rattle.pg_law_runs.proofs as of_pg_law_runs

@@ -1,11 +1,11 @@
 -- The regions of a program's branches, as closed decisions see them.
 use Rattle.std.proofs.Common.{ℕ, Bool, Option, refl}
 use Rattle.pg_region_accesses.specs.Accesses.{RootedList}
-use Rattle.pg_slice_rules.specs.Freeable.{Regions}
+use Rattle.pg_slice_passes.specs.pg_slice_rules.Freeable.{Regions}
 use Rattle.pg_ir.specs.Program.{NumberedProgram}
 use Rattle.pg_ir.specs.WellFormed.{IsProgram}
 use Rattle.pg_region_summaries.specs.Summaries.{AreSummaries}
-use Rattle.pg_slice_replay.specs.OfRegions.{AreRegions, branch_region}
+use Rattle.pg_slice_passes.specs.pg_slice_replay.OfRegions.{AreRegions, branch_region}
 use Rattle.pg_law_reference.proofs.RegionsExist.{region_of}
 use Rattle.pg_law_reference.proofs.ShortSummaries.{short_calls}
 

@@ -7,8 +7,8 @@ use Rattle.pg_region_accesses.specs.Accesses.{RootedList, is_gated}
 use Rattle.pg_run_trace.specs.declared.step.Step.{Step}
 use Rattle.pg_run_trace.specs.declared.turn.Turn.{Turn}
 use Rattle.pg_run.specs.Follow.{Exits, following_of}
-use Rattle.pg_law_effects.specs.Reached.{HoldBytes}
-use Rattle.pg_slice_rules.specs.Freeable.{Regions}
+use Rattle.pg_slice_passes.specs.pg_law_effects.Reached.{HoldBytes}
+use Rattle.pg_slice_passes.specs.pg_slice_rules.Freeable.{Regions}
 use Rattle.pg_law_instances.specs.References.{IsReferenceRun}
 use Rattle.pg_law_reference.proofs.BranchRegions.{regions_are}
 use Rattle.pg_law_reference.proofs.SummariesExist.{summaries}

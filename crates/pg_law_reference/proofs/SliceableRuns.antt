@@ -14,9 +14,9 @@ use Rattle.pg_run.specs.declared.guided_end.GuidedEnd.{GuidedEnd}
 use Rattle.pg_run.specs.declared.guided_end.GuidedEnd.TheVariants as ends
 use Rattle.pg_run.specs.Follow.{Breaks, Exits, Following, Strays, following, following_of, reached}
 use Rattle.pg_run.specs.Guided.{GuidedRun, guided_of}
-use Rattle.pg_law_effects.specs.Reached.{HoldBytes}
-use Rattle.pg_slice_replay.specs.declared.run.ReferenceRun.{ReferenceRun}
-use Rattle.pg_slice_replay.proofs.ReplaysAreRuns.{followed_runs}
+use Rattle.pg_slice_passes.specs.pg_law_effects.Reached.{HoldBytes}
+use Rattle.pg_slice_passes.specs.pg_slice_replay.declared.run.ReferenceRun.{ReferenceRun}
+use Rattle.pg_slice_passes.proofs.of_pg_slice_replay.ReplaysAreRuns.{followed_runs}
 use Rattle.pg_slice_passes.specs.Given.{EdgesStand, reference_of}
 use Rattle.pg_slice_passes.proofs.RunsFit.{edges_are, run_fits}
 use Rattle.pg_law_instances.proofs.ReferenceExtents.{extents_keep}

@@ -3,19 +3,19 @@ use Rattle.std.proofs.Common.{◌≡◌, ℕ, ℤ, ◌<◌, ◌^◌, Bool, true,
 use Rattle.pg_ir.specs.declared.ids.InstrId.{InstrId}
 use Rattle.pg_ir.specs.Program.{NumberedProgram}
 use Rattle.pg_ir.specs.WellFormed.{IsProgram}
-use Rattle.pg_law_effects.specs.Reached.{HoldBytes}
+use Rattle.pg_slice_passes.specs.pg_law_effects.Reached.{HoldBytes}
 use Rattle.pg_law_instances.proofs.ReferenceExtents.{extents_keep}
-use Rattle.pg_law_least.proofs.SmallerAdmitsMore.{admits_more}
+use Rattle.pg_law_instances.proofs.of_pg_law_least.SmallerAdmitsMore.{admits_more}
 use Rattle.pg_law_reference.specs.Given.{reference_of}
 use Rattle.pg_region_accesses.specs.Accesses.{RootedList, is_gated}
 use Rattle.pg_region_summaries.specs.Summaries.{AreSummaries}
 use Rattle.pg_run.specs.Follow.{Exits, following_of}
 use Rattle.pg_run_trace.specs.declared.step.Step.{Step}
 use Rattle.pg_run_trace.specs.declared.turn.Turn.{Turn}
-use Rattle.pg_slice_replay.specs.OfRegions.{AreRegions}
-use Rattle.pg_slice_rules.specs.Closed.{IsSlice, admits}
-use Rattle.pg_slice_rules.specs.Freeable.{Regions}
-use Rattle.pg_slice_rules.specs.Known.{Taken}
+use Rattle.pg_slice_passes.specs.pg_slice_replay.OfRegions.{AreRegions}
+use Rattle.pg_slice_passes.specs.pg_slice_rules.Closed.{IsSlice, admits}
+use Rattle.pg_slice_passes.specs.pg_slice_rules.Freeable.{Regions}
+use Rattle.pg_slice_passes.specs.pg_slice_rules.Known.{Taken}
 use Rattle.pg_law_reference.proofs.BranchRegions.{regions_are}
 use Rattle.pg_law_reference.proofs.SummariesAreOne.{same_regions}
 

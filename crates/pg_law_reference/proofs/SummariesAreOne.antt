@@ -13,8 +13,8 @@ use Rattle.pg_region_summaries.specs.Summaries.{AreSummaries}
 use Rattle.pg_region_summaries.proofs.CallWalks.{fewer, reaches_itself}
 use Rattle.pg_region_summaries.proofs.InstructionPlaces.{callee_small}
 use Rattle.pg_region_summaries.proofs.SummariesOfCallees.{blocks_same, summary_same}
-use Rattle.pg_slice_replay.specs.OfRegions.{AreRegions}
-use Rattle.pg_slice_rules.specs.Freeable.{Regions}
+use Rattle.pg_slice_passes.specs.pg_slice_replay.OfRegions.{AreRegions}
+use Rattle.pg_slice_passes.specs.pg_slice_rules.Freeable.{Regions}
 use Rattle.pg_law_reference.proofs.SummariesExist.{are_reaches, reaches}
 
 module _ (p : NumberedProgram) (program : IsProgram p) (gated : ℕ → Bool) (s t : ℕ → Option RootedList) (first : AreSummaries p gated s) (second : AreSummaries p gated t) where

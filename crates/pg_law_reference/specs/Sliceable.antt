@@ -7,10 +7,10 @@ use Rattle.pg_region_summaries.specs.Summaries.{AreSummaries}
 use Rattle.pg_run_trace.specs.declared.step.Step.{Step}
 use Rattle.pg_run.specs.Runs.{IsRun}
 use Rattle.pg_run.specs.State.{State, initial}
-use Rattle.pg_slice_rules.specs.Freeable.{Regions}
-use Rattle.pg_law_least.specs.Keeps.{ExtentsKeep}
-use Rattle.pg_slice_replay.specs.declared.run.ReferenceRun.{ReferenceRun}
-use Rattle.pg_slice_replay.specs.OfRegions.{AreRegions}
+use Rattle.pg_slice_passes.specs.pg_slice_rules.Freeable.{Regions}
+use Rattle.pg_law_instances.specs.pg_law_least.Keeps.{ExtentsKeep}
+use Rattle.pg_slice_passes.specs.pg_slice_replay.declared.run.ReferenceRun.{ReferenceRun}
+use Rattle.pg_slice_passes.specs.pg_slice_replay.OfRegions.{AreRegions}
 use Rattle.pg_slice_passes.specs.Given.{AreSteps, HasLandmarks, reference_of}
 
 -- the steps are those of a run, each is one of its instruction, and their number has 32 bits; and they keep to the regions of

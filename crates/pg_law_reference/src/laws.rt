@@ -4,7 +4,7 @@
 ghost use Rattle.pg_ir.specs.Program.{NumberedProgram};
 ghost use Rattle.pg_ir.specs.WellFormed.{IsProgram};
 ghost use Rattle.pg_ir.specs.declared.ids.InstrId.{InstrId};
-ghost use Rattle.pg_law_effects.specs.Reached.{HoldBytes};
+ghost use Rattle.pg_slice_passes.specs.pg_law_effects.Reached.{HoldBytes};
 ghost use Rattle.pg_law_instances.specs.References.{IsReferenceRun};
 ghost use Rattle.pg_law_reference.specs.Sliceable.{CanBeSliced, HasItsLandmarks};
 ghost use Rattle.pg_region.specs.Regions.{RegionOf};
@@ -15,9 +15,9 @@ ghost use Rattle.pg_run.specs.Follow.{Exits, following_of};
 ghost use Rattle.pg_run_trace.specs.declared.step.Step.{Step};
 ghost use Rattle.pg_run_trace.specs.declared.turn.Turn.{Turn};
 ghost use Rattle.pg_slice_passes.specs.Given.{EdgesStand};
-ghost use Rattle.pg_slice_replay.specs.OfRegions.{AreRegions};
-ghost use Rattle.pg_slice_replay.specs.declared.run.ReferenceRun.{ReferenceRun};
-ghost use Rattle.pg_slice_rules.specs.Freeable.{Regions};
+ghost use Rattle.pg_slice_passes.specs.pg_slice_replay.OfRegions.{AreRegions};
+ghost use Rattle.pg_slice_passes.specs.pg_slice_replay.declared.run.ReferenceRun.{ReferenceRun};
+ghost use Rattle.pg_slice_passes.specs.pg_slice_rules.Freeable.{Regions};
 ghost use Rattle.std.specs.Prelude.{◌≡◌, ◌<◌, ◌^◌, ℕ, ℤ, List, Bool, Option, length};
 
 /// The functions of each program have summaries, whatever is gated.

@@ -4,4 +4,5 @@
 
 pub mod laws;
 
+pub use pg_law_instances::pg_slice_replay;
 pub use pg_slice_passes::{GivenRun, Slice, fits};

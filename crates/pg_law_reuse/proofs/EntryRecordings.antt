@@ -1,37 +1,36 @@
 -- What an entry keeps is a recording of its guided run, whose decisions are closed and admit what its precondition admits.
 use Rattle.std.proofs.Common.{◌≡◌, ℕ, ℤ, ◌<◌, ◌^◌, List, [], length, map, true, refl, sym, ap, ◌∙◌, subst, append-nil}
-use Rattle.pg_ir.specs.declared.ids.InstrId.{InstrId}
-use Rattle.pg_ir.specs.Program.{NumberedProgram}
+use Rattle.pg_law_reuse.specs.pg_ir.declared.ids.InstrId.{InstrId}
+use Rattle.pg_law_reuse.specs.pg_ir.Program.{NumberedProgram}
 use Rattle.pg_precondition.specs.Nodes.{Conditions}
 use Rattle.pg_precondition.specs.Values.{is_admitted}
 use Rattle.pg_region_accesses.specs.Accesses.{is_gated}
-use Rattle.pg_law_threads.specs.Intervals.{IsOrdered}
-use Rattle.pg_run_trace.specs.declared.schedule.Schedule.{Schedule}
-use Rattle.pg_run_trace.specs.declared.step.Step.{Step}
-use Rattle.pg_run_trace.specs.declared.turn.Turn.{Turn}
-use Rattle.pg_run_trace.specs.Races.{recorded, schedule_of, with_gated}
-use Rattle.pg_run.specs.Follow.{Exits, following_of}
-use Rattle.pg_run.specs.Guided.{guided_of}
-use Rattle.pg_run.specs.Permitted.{turns_left}
-use Rattle.pg_run.specs.Runs.{events}
-use Rattle.pg_run.specs.State.{State, exit_value_of}
-use Rattle.pg_run.proofs.GuidedPermitted.{guided_permitted}
-use Rattle.pg_slice_rules.specs.Freeable.{Regions}
-use Rattle.pg_slice_rules.specs.Known.{Taken}
+use Rattle.pg_law_reuse.specs.pg_law_threads.Intervals.{IsOrdered}
+use Rattle.pg_law_reuse.specs.pg_run_trace.declared.schedule.Schedule.{Schedule}
+use Rattle.pg_law_reuse.specs.pg_run_trace.declared.step.Step.{Step}
+use Rattle.pg_law_reuse.specs.pg_run_trace.declared.turn.Turn.{Turn}
+use Rattle.pg_law_reuse.specs.pg_run_trace.Races.{recorded, schedule_of, with_gated}
+use Rattle.pg_law_reuse.specs.pg_run.Follow.{Exits, following_of}
+use Rattle.pg_law_reuse.specs.pg_run.Guided.{guided_of}
+use Rattle.pg_law_reuse.specs.pg_run.Permitted.{turns_left}
+use Rattle.pg_law_reuse.specs.pg_run.Runs.{events}
+use Rattle.pg_law_reuse.specs.pg_run.State.{State, exit_value_of}
+use Rattle.pg_session_entry.specs.pg_slice_rules.Freeable.{Regions}
+use Rattle.pg_session_entry.specs.pg_slice_rules.Known.{Taken}
 use Rattle.pg_session_entry.specs.OfRegions.{AreRegions}
 use Rattle.pg_session_entry.proofs.BranchRegions.{regions_are}
-use Rattle.pg_law_runs.specs.Cuts.{CanRun, IsOrderedAlong, steps_by}
-use Rattle.pg_law_runs.specs.Deeds.{owners_of}
-use Rattle.pg_law_runs.specs.LastTurns.{IsRecorded}
-use Rattle.pg_law_order.specs.Good.{IsGoodRun, replies_of}
-use Rattle.pg_law_order.specs.Schedules.{along}
-use Rattle.pg_law_order.proofs.UnorderedPairs.{ordered_none}
-use Rattle.pg_law_order.proofs.RecordedSchedules.{guides_as, up_to}
-use Rattle.pg_law_order.proofs.ExitsHaveAllTurns.{all_turns, exited, owners_events}
+use Rattle.pg_session_entry.specs.pg_law_runs.Cuts.{CanRun, IsOrderedAlong, steps_by}
+use Rattle.pg_session_entry.specs.pg_law_runs.Deeds.{owners_of}
+use Rattle.pg_session_entry.specs.pg_law_runs.LastTurns.{IsRecorded}
+use Rattle.pg_session_entry.specs.pg_law_order.Good.{IsGoodRun, replies_of}
+use Rattle.pg_session_entry.specs.pg_law_order.Schedules.{along}
+use Rattle.pg_session_entry.proofs.of_pg_law_order.UnorderedPairs.{ordered_none}
+use Rattle.pg_session_entry.proofs.of_pg_law_order.RecordedSchedules.{guides_as, up_to}
+use Rattle.pg_session_entry.proofs.of_pg_law_order.ExitsHaveAllTurns.{all_turns, exited, owners_events}
 use Rattle.pg_law_admitted.specs.Recorded.{IsOrderedReference}
 use Rattle.pg_law_admitted.proofs.AdmittedGuidedRun.{good_run}
 use Rattle.pg_session_entry.specs.Entries.{EntryParts, IsEntry, IsEntryOfTurns, IsSliced, decisions_of}
-use Rattle.pg_law_order.proofs.FirstEvents.{fronts_same, replies_first, until_replies}
+use Rattle.pg_session_entry.proofs.of_pg_law_order.FirstEvents.{fronts_same, replies_first, until_replies}
 
 -- ---- what is kept of an ordered run that exits
 
@@ -60,9 +59,10 @@ recorded_replies : (p : NumberedProgram) (own : List ℤ) (xs : List Step) (z : 
 recorded_replies p own xs z can h =
     let s = schedule_of xs in
     let g = guided_of p own s.turns s.gated in
+    let guided = guides_as p own can xs z h in
     let all = (up_to p own can xs z h).ordered.permitted.in_order in
-    let mine = (guided_permitted p own s.turns s.gated).in_order in
-    let same = (guides_as p own can xs z h).steps in
+    let mine = guided.ordered.permitted.in_order in
+    let same = guided.steps in
     fronts_same (replies_of g.trace) (replies_of (along s xs))
     (replies_first s.turns g.trace (along s xs) (turns_left s.turns g.trace, mine) (turns_left s.turns (along s xs), all) (λ t. ([], append-nil (steps_by t g.trace) ∙ same t)))
     (replies_first s.turns (along s xs) g.trace (turns_left s.turns (along s xs), all) (turns_left s.turns g.trace, mine) (λ t. ([], append-nil (steps_by t (along s xs)) ∙ sym (same t))))

@@ -1,18 +1,18 @@
 //! An entry's turns serve every input that it admits: each law is the clause of a function that does nothing.
 
 ghost use Rattle.std.specs.Prelude.{◌≡◌, ◌<◌, ◌^◌, ℕ, ℤ, List, length, true};
-ghost use Rattle.pg_ir.specs.Program.{NumberedProgram};
-ghost use Rattle.pg_ir.specs.declared.ids.InstrId.{InstrId};
+ghost use Rattle.pg_law_reuse.specs.pg_ir.Program.{NumberedProgram};
+ghost use Rattle.pg_law_reuse.specs.pg_ir.declared.ids.InstrId.{InstrId};
 ghost use Rattle.pg_precondition.specs.Values.{is_admitted};
-ghost use Rattle.pg_run_trace.specs.declared.schedule.Schedule.{Schedule};
-ghost use Rattle.pg_run_trace.specs.declared.step.Step.{Step};
-ghost use Rattle.pg_run_trace.specs.declared.turn.Turn.{Turn};
-ghost use Rattle.pg_run.specs.State.{State};
-ghost use Rattle.pg_law_runs.specs.Cuts.{CanRun};
-ghost use Rattle.pg_law_runs.specs.LastTurns.{IsRecorded};
-ghost use Rattle.pg_law_order.specs.Good.{IsGoodRun};
+ghost use Rattle.pg_law_reuse.specs.pg_run_trace.declared.schedule.Schedule.{Schedule};
+ghost use Rattle.pg_law_reuse.specs.pg_run_trace.declared.step.Step.{Step};
+ghost use Rattle.pg_law_reuse.specs.pg_run_trace.declared.turn.Turn.{Turn};
+ghost use Rattle.pg_law_reuse.specs.pg_run.State.{State};
+ghost use Rattle.pg_session_entry.specs.pg_law_runs.Cuts.{CanRun};
+ghost use Rattle.pg_session_entry.specs.pg_law_runs.LastTurns.{IsRecorded};
+ghost use Rattle.pg_session_entry.specs.pg_law_order.Good.{IsGoodRun};
 ghost use Rattle.pg_session_entry.specs.Entries.{EntryParts, IsEntry, IsEntryOfTurns};
-ghost use Rattle.pg_law_order.specs.Served.{IsServed};
+ghost use Rattle.pg_session_entry.specs.pg_law_order.Served.{IsServed};
 
 /// The entry of a recorded run serves each input that its precondition admits: the full guided run along its schedule is good
 /// there, and each run that its turns permit is as that run.

@@ -3,4 +3,5 @@
 
 pub mod laws;
 
+pub use pg_law_admitted::pg_law_order;
 pub use pg_session_entry::{Entry, FromFault, Record, from_recorded, from_turns, record};

@@ -14,3 +14,4 @@ pub mod FullRunEnds
 pub mod UpToLastTurns
 pub mod StrayedOwners
 pub mod SharedBytes
+pub use Rattle.pg_law_effects.proofs as of_pg_law_effects

@@ -10,7 +10,7 @@ use Rattle.std.proofs.Math.Numerals.{add-one}
 use Rattle.std.proofs.lemmas.Bool.Decides.{nat_tests}
 use Rattle.std.specs.Int.Digits.{digits_of, number_from_digits_after, AllBelowBase}
 use Rattle.std.proofs.lemmas.Int.Digits.{digits_of_step, number_digits_of, all_below_base_digits_of}
-use Rattle.pg_num.specs.Decimal.{is_digit, digits_after, natural_of}
+use Rattle.pg_read_lex.specs.pg_num.Decimal.{is_digit, digits_after, natural_of}
 use Rattle.pg_read_ast.specs.Numbers.{digits_text, decimal_text}
 use Rattle.pg_read_ast.specs.Digits.{IsPlain, padded}
 use Rattle.pg_read_lex.specs.Bytes.{is_name_byte}

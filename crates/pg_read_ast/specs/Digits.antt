@@ -1,6 +1,6 @@
 -- Decimal digits without leading zeros, and numbers of one width.
 use Rattle.std.specs.Prelude.{ℕ, ◌-◌, List, ◌++◌, length, replicate, ◌≡◌}
-use Rattle.pg_num.specs.Decimal.{natural_of}
+use Rattle.pg_read_lex.specs.pg_num.Decimal.{natural_of}
 use Rattle.pg_read_ast.specs.Numbers.{digits_text}
 
 -- digits without leading zeros, none for 0

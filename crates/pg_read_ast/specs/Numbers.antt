@@ -2,7 +2,7 @@
 use Rattle.std.specs.Prelude.{ℕ, zero, suc, ◌+◌, max, Bool, true, false, not, List, [], ◌∷◌, ◌==◌, if◌then◌else◌, Option, Some, None, map, length, codes}
 use Rattle.std.specs.Int.Digits.{digits_of}
 use Rattle.std.specs.Str.{bytes_eq}
-use Rattle.pg_num.specs.Decimal.{are_digits, natural_of}
+use Rattle.pg_read_lex.specs.pg_num.Decimal.{are_digits, natural_of}
 use Rattle.pg_read_ast.specs.declared.names.Name.{Name}
 use Rattle.pg_read_ast.specs.Syntax.{Ty, Void, Named, Op, Binary, Icmp, Cast, Select, Phi, Br, CondBr, Switch, Call}
 use Rattle.pg_read_ast.specs.Syntax.{RetVoid, Ret, Unreachable, Alloca, Load, Store, GetElementPtr, Line, Block, Param}

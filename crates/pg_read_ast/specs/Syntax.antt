@@ -4,7 +4,7 @@ use Rattle.pg_read_lex.specs.declared.token.Span.{Span}
 use Rattle.pg_read_ast.specs.declared.names.Name.{Name}
 use Rattle.pg_read_ast.specs.declared.names.Literal.{Literal}
 use Rattle.pg_read_ast.specs.declared.ops.BinaryOp.{BinaryOp}
-use Rattle.pg_num.specs.declared.operations.Compare.{Compare}
+use Rattle.pg_read_lex.specs.pg_num.declared.operations.Compare.{Compare}
 use Rattle.pg_read_ast.specs.declared.ops.CastOp.{CastOp}
 
 mutual

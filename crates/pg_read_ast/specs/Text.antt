@@ -7,8 +7,8 @@ use Rattle.pg_read_ast.specs.declared.names.Name.{Name}
 use Rattle.pg_read_ast.specs.declared.names.Literal.{Literal}
 use Rattle.pg_read_ast.specs.declared.ops.BinaryOp.{BinaryOp}
 use Rattle.pg_read_ast.specs.declared.ops.BinaryOp.TheVariants.{Add, Sub, Mul, Udiv, Sdiv, Urem, Srem, Shl, Lshr, Ashr, And, Or, Xor}
-use Rattle.pg_num.specs.declared.operations.Compare.{Compare}
-use Rattle.pg_num.specs.declared.operations.Compare.TheVariants.{Eq, Ne, Ugt, Uge, Ult, Ule, Sgt, Sge, Slt, Sle}
+use Rattle.pg_read_lex.specs.pg_num.declared.operations.Compare.{Compare}
+use Rattle.pg_read_lex.specs.pg_num.declared.operations.Compare.TheVariants.{Eq, Ne, Ugt, Uge, Ult, Ule, Sgt, Sge, Slt, Sle}
 use Rattle.pg_read_ast.specs.declared.ops.CastOp.{CastOp}
 use Rattle.pg_read_ast.specs.declared.ops.CastOp.TheVariants.{Trunc, Zext, Sext, PtrToInt, IntToPtr}
 use Rattle.pg_read_ast.specs.Syntax.{Ty, Tys, I1, I8, I16, I32, I64, Ptr, Void, Array, Struct, Named, NoTys, MoreTys, Val}

@@ -14,6 +14,8 @@ pub use nodes::{
     TypeItem,
 };
 pub use ops::{ArgNode, BinaryOp, CallTypes, CaseNode, CastOp, CountNode, IncomingNode, OpNode};
+pub use pg_read_lex;
+pub use pg_read_lex::pg_num;
 pub use print::{NextNumber, has_result, print_module};
 pub use types::TypeNode;
 pub use values::{ConstNode, TypedConst, TypedVal, ValNode};

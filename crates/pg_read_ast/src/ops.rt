@@ -3,8 +3,8 @@
 use crate::names::{Literal, Name};
 use crate::types::TypeNode;
 use crate::values::{TypedVal, ValNode};
-use pg_num::Compare;
 use pg_read_lex::Span;
+use pg_read_lex::pg_num::Compare;
 
 /// An operation on two integers.
 #[derive(Clone, Copy, Debug, PartialEq, Eq)]

@@ -8,5 +8,6 @@ mod token;
 
 pub use lexer::lex;
 pub use names::token_bytes;
+pub use pg_num;
 pub use places::position;
 pub use token::{LexFault, Span, Token, TokenKind};

@@ -2,7 +2,7 @@
 use Rattle.std.proofs.Common.{◌≡◌, ℕ, zero, suc, ◌+◌, ◌<◌, ◌↔◌, List, [], ◌∷◌, sym, subst, arith, inl, inr, ◌⊎◌}
 use Rattle.std.specs.Prelude.{Contains}
 use Rattle.std.specs.List.Sorted.{IsStrictlyIncreasing}
-use Rattle.pg_region_paths.proofs.Elements.{here, there, cases, none_in}
+use Rattle.pg_region_accesses.proofs.of_pg_region_paths.Elements.{here, there, cases, none_in}
 use Rattle.pg_region_accesses.proofs.AscendingSets.{tail_of, below}
 
 cons_ascends : (x : ℕ) (xs : List ℕ) → IsStrictlyIncreasing xs → ((z : ℕ) → Contains xs z → x < z) → IsStrictlyIncreasing (x ∷ xs)

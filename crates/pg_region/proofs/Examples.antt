@@ -15,7 +15,7 @@ use Rattle.pg_ir.specs.Program.{types_of, function_of, first_of, end_of}
 use Rattle.pg_ir.specs.Edges as edges
 use Rattle.pg_region_accesses.specs.Accesses.{RootedList, block_accesses, block_sets, set_accesses}
 use Rattle.pg_region_accesses.proofs.AscendingSets.{shorter}
-use Rattle.pg_region_paths.proofs.Elements.{here, there, cases, only_here}
+use Rattle.pg_region_accesses.proofs.of_pg_region_paths.Elements.{here, there, cases, only_here}
 use Rattle.pg_region_accesses.proofs.QuietInstructions.{set_quiet}
 use Rattle.pg_region.specs.Regions.{flow_of, IsJoin, IsSmaller}
 use Rattle.pg_region.specs.Examples.{loop_program, loop_flow, loop_accesses, no_summary, LoopHasRegion, GatedLoopHasNone}

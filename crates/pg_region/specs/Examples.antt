@@ -9,8 +9,8 @@ use Rattle.pg_ir.specs.declared.value.Scalar.TheVariants.{Int, Ptr}
 use Rattle.pg_ir.specs.declared.value.Scale.TheVariants as scale
 use Rattle.pg_ir.specs.declared.value.Value.TheVariants as value
 use Rattle.pg_ir.specs.Program.{NumberedProgram}
-use Rattle.pg_region_paths.specs.declared.path.Loads.TheVariants.{Never}
-use Rattle.pg_region_paths.specs.declared.path.Root.TheVariants as root
+use Rattle.pg_region_accesses.specs.pg_region_paths.declared.path.Loads.TheVariants.{Never}
+use Rattle.pg_region_accesses.specs.pg_region_paths.declared.path.Root.TheVariants as root
 use Rattle.pg_region_accesses.specs.Accesses.{RootedList}
 use Rattle.pg_region.specs.declared.region.Region.{Region}
 use Rattle.pg_region.specs.Regions.{flow_of, IsRegion, RegionOf}

@@ -3,10 +3,10 @@ use Rattle.std.proofs.Common.{◌≡◌, ℕ, zero, suc, ◌<◌, ◌≤◌, Lis
 use Rattle.std.specs.Prelude.{slice_get}
 use Rattle.std.proofs.lemmas.Bool.{cases_lt}
 use Rattle.std.proofs.lemmas.Option.{slice_get_within}
-use Rattle.pg_ir.specs.declared.function.Block.{Block}
-use Rattle.pg_ir.specs.declared.instr.Instr.{Instr}
-use Rattle.pg_ir.specs.Program.{NumberedProgram}
-use Rattle.pg_ir.specs.WellFormed.{IsProgram, FitsBlock, IsInBlock}
+use Rattle.pg_region_paths.specs.pg_ir.declared.function.Block.{Block}
+use Rattle.pg_region_paths.specs.pg_ir.declared.instr.Instr.{Instr}
+use Rattle.pg_region_paths.specs.pg_ir.Program.{NumberedProgram}
+use Rattle.pg_region_paths.specs.pg_ir.WellFormed.{IsProgram, FitsBlock, IsInBlock}
 
 -- the last block is the block of an instruction
 pub counted : (p : NumberedProgram) (count : ℕ) → IsProgram p → ((k : ℕ) (x : Instr) → k < length p.instrs → slice_get p.instrs k ≡ Some x → x.block.0 < count)

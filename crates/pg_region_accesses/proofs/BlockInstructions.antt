@@ -5,20 +5,20 @@ use mathlib.Core.Path.{fun_ext}
 use Rattle.std.specs.Prelude.{slice_get, IfSome}
 use Rattle.std.specs.List.{AllByRecursion}
 use Rattle.std.proofs.lemmas.List.{reverse-append}
-use Rattle.pg_ir.specs.declared.function.Block.{Block}
-use Rattle.pg_ir.specs.declared.function.Function.{Function}
-use Rattle.pg_ir.specs.declared.value.Index.{Index}
-use Rattle.pg_ir.specs.declared.value.Value.{Value}
-use Rattle.pg_ir.specs.declared.value.Value.TheVariants as value
-use Rattle.pg_ir.specs.declared.value.Scalar.{Scalar}
-use Rattle.pg_ir.specs.declared.value.Scalar.TheVariants.{Int}
-use Rattle.pg_num.specs.declared.width.Width.{Width}
-use Rattle.pg_ir.specs.declared.instr.Instr.{Instr}
-use Rattle.pg_ir.specs.declared.instr.Op.{Op}
-use Rattle.pg_ir.specs.declared.instr.Op.TheVariants as op
-use Rattle.pg_ir.specs.Program.{NumberedProgram, first_of, end_of, types_of, function_of}
-use Rattle.pg_ir.specs.Edges.{instrs_of}
-use Rattle.pg_ir.specs.WellFormed.{FitsBlock, FitsInstr, FitsOp, FitsIndex, HasType, IsInBlock}
+use Rattle.pg_region_paths.specs.pg_ir.declared.function.Block.{Block}
+use Rattle.pg_region_paths.specs.pg_ir.declared.function.Function.{Function}
+use Rattle.pg_region_paths.specs.pg_ir.declared.value.Index.{Index}
+use Rattle.pg_region_paths.specs.pg_ir.declared.value.Value.{Value}
+use Rattle.pg_region_paths.specs.pg_ir.declared.value.Value.TheVariants as value
+use Rattle.pg_region_paths.specs.pg_ir.declared.value.Scalar.{Scalar}
+use Rattle.pg_region_paths.specs.pg_ir.declared.value.Scalar.TheVariants.{Int}
+use Rattle.pg_region_paths.specs.pg_num.declared.width.Width.{Width}
+use Rattle.pg_region_paths.specs.pg_ir.declared.instr.Instr.{Instr}
+use Rattle.pg_region_paths.specs.pg_ir.declared.instr.Op.{Op}
+use Rattle.pg_region_paths.specs.pg_ir.declared.instr.Op.TheVariants as op
+use Rattle.pg_region_paths.specs.pg_ir.Program.{NumberedProgram, first_of, end_of, types_of, function_of}
+use Rattle.pg_region_paths.specs.pg_ir.Edges.{instrs_of}
+use Rattle.pg_region_paths.specs.pg_ir.WellFormed.{FitsBlock, FitsInstr, FitsOp, FitsIndex, HasType, IsInBlock}
 use Rattle.pg_region_paths.specs.declared.path.Path.{Path}
 use Rattle.pg_region_paths.specs.Fits.{FitsWidth, FitsConstant, FitsGep}
 use Rattle.pg_region_paths.specs.Registers.{register_path, path_by, is_register, has_pointer}

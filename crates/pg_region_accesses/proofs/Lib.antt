@@ -6,3 +6,4 @@ pub mod BlockInstructions
 pub mod SetTables
 pub mod LoudBlocks
 pub mod AscendingSets
+pub use Rattle.pg_region_paths.proofs as of_pg_region_paths

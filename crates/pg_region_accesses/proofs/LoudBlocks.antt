@@ -4,7 +4,7 @@ use Rattle.std.proofs.Common.{subst, inl, inr, ◌⊎◌, length-append, arith}
 use mathlib.Core.Path.{fun_ext}
 use Rattle.std.specs.Prelude.{not}
 use Rattle.std.proofs.lemmas.Bool.{true≢false}
-use Rattle.pg_ir.specs.Program.{NumberedProgram}
+use Rattle.pg_region_paths.specs.pg_ir.Program.{NumberedProgram}
 use Rattle.pg_region_accesses.specs.Accesses.{RootedList, gathered, block_accesses, sets, set_accesses}
 use Rattle.pg_region_accesses.specs.Appends.{Appends}
 use Rattle.pg_region_accesses.specs.Tables.{in_table}

@@ -5,14 +5,14 @@ use Rattle.std.proofs.Common.{◌∙◌, arith, inl, inr, ◌⊎◌}
 use Rattle.std.specs.Prelude.{Contains, option_map, option_and_then, slice_get}
 use Rattle.std.specs.List.{list_any}
 use Rattle.std.proofs.lemmas.Bool.{true≢false}
-use Rattle.pg_ir.specs.declared.value.Value.{Value}
-use Rattle.pg_ir.specs.declared.value.Value.TheVariants as value
-use Rattle.pg_ir.specs.declared.value.Scalar.{Scalar}
-use Rattle.pg_ir.specs.declared.instr.Instr.{Instr}
-use Rattle.pg_ir.specs.declared.instr.Op.{Op}
-use Rattle.pg_ir.specs.declared.instr.Op.TheVariants as op
-use Rattle.pg_ir.specs.Program.{NumberedProgram, types_of, function_of, first_of}
-use Rattle.pg_ir.specs.Edges.{instrs_of}
+use Rattle.pg_region_paths.specs.pg_ir.declared.value.Value.{Value}
+use Rattle.pg_region_paths.specs.pg_ir.declared.value.Value.TheVariants as value
+use Rattle.pg_region_paths.specs.pg_ir.declared.value.Scalar.{Scalar}
+use Rattle.pg_region_paths.specs.pg_ir.declared.instr.Instr.{Instr}
+use Rattle.pg_region_paths.specs.pg_ir.declared.instr.Op.{Op}
+use Rattle.pg_region_paths.specs.pg_ir.declared.instr.Op.TheVariants as op
+use Rattle.pg_region_paths.specs.pg_ir.Program.{NumberedProgram, types_of, function_of, first_of}
+use Rattle.pg_region_paths.specs.pg_ir.Edges.{instrs_of}
 use Rattle.pg_region_paths.specs.declared.path.Root.{Root}
 use Rattle.pg_region_paths.specs.declared.path.Root.TheVariants as root
 use Rattle.pg_region_paths.specs.declared.path.Path.{Path}

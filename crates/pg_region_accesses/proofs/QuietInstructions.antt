@@ -2,17 +2,17 @@
 use Rattle.std.proofs.Common.{◌≡◌, ℕ, zero, suc, ◌+◌, Bool, true, false, cond, List, [], ◌∷◌, ◌++◌, Option, Some, None, refl, sym, subst, arith, inl, inr, ◌⊎◌}
 use Rattle.std.specs.Prelude.{Contains, option_map, option_and_then, slice_get}
 use Rattle.std.proofs.lemmas.List.Elements.{Contains-append_cases}
-use Rattle.pg_ir.specs.declared.library_call.LibraryCall.{LibraryCall}
-use Rattle.pg_ir.specs.declared.library_call.LibraryCall.TheVariants.{PgIn, PgInLen}
-use Rattle.pg_ir.specs.declared.value.Value.{Value}
-use Rattle.pg_ir.specs.declared.value.Value.TheVariants as value
-use Rattle.pg_ir.specs.declared.value.Index.{Index}
-use Rattle.pg_ir.specs.declared.value.Scalar.{Scalar}
-use Rattle.pg_ir.specs.declared.instr.Instr.{Instr}
-use Rattle.pg_ir.specs.declared.instr.Op.{Op}
-use Rattle.pg_ir.specs.declared.instr.Op.TheVariants as op
-use Rattle.pg_ir.specs.Program.{NumberedProgram, types_of, function_of, first_of}
-use Rattle.pg_ir.specs.Edges.{instrs_of}
+use Rattle.pg_region_paths.specs.pg_ir.declared.library_call.LibraryCall.{LibraryCall}
+use Rattle.pg_region_paths.specs.pg_ir.declared.library_call.LibraryCall.TheVariants.{PgIn, PgInLen}
+use Rattle.pg_region_paths.specs.pg_ir.declared.value.Value.{Value}
+use Rattle.pg_region_paths.specs.pg_ir.declared.value.Value.TheVariants as value
+use Rattle.pg_region_paths.specs.pg_ir.declared.value.Index.{Index}
+use Rattle.pg_region_paths.specs.pg_ir.declared.value.Scalar.{Scalar}
+use Rattle.pg_region_paths.specs.pg_ir.declared.instr.Instr.{Instr}
+use Rattle.pg_region_paths.specs.pg_ir.declared.instr.Op.{Op}
+use Rattle.pg_region_paths.specs.pg_ir.declared.instr.Op.TheVariants as op
+use Rattle.pg_region_paths.specs.pg_ir.Program.{NumberedProgram, types_of, function_of, first_of}
+use Rattle.pg_region_paths.specs.pg_ir.Edges.{instrs_of}
 use Rattle.pg_region_paths.specs.declared.path.Root.{Root}
 use Rattle.pg_region_paths.specs.declared.path.Root.TheVariants as root
 use Rattle.pg_region_paths.specs.declared.path.Loads.{Loads}

@@ -6,10 +6,10 @@ use Rattle.std.proofs.Math.ListN.{set}
 use Rattle.std.proofs.lemmas.Bool.{cases_eq, cases_lt, eq-eqb, ne_eqb}
 use Rattle.std.proofs.lemmas.List.{take_more, length-replicate, get_or-replicate, get_or_past}
 use Rattle.std.specs.Prelude.{slice_get}
-use Rattle.pg_ir.specs.declared.function.Block.{Block}
-use Rattle.pg_ir.specs.declared.instr.Instr.{Instr}
-use Rattle.pg_ir.specs.Program.{NumberedProgram}
-use Rattle.pg_ir.specs.Edges.{instrs_of}
+use Rattle.pg_region_paths.specs.pg_ir.declared.function.Block.{Block}
+use Rattle.pg_region_paths.specs.pg_ir.declared.instr.Instr.{Instr}
+use Rattle.pg_region_paths.specs.pg_ir.Program.{NumberedProgram}
+use Rattle.pg_region_paths.specs.pg_ir.Edges.{instrs_of}
 use Rattle.pg_region_paths.specs.Registers.{is_register}
 use Rattle.pg_region_accesses.specs.Accesses.{block_sets}
 use Rattle.pg_region_accesses.specs.Tables.{in_table}

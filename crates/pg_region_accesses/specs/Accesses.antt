@@ -1,16 +1,16 @@
 -- What quiet basic blocks access, each access with the root path of its pointer.
 use Rattle.std.specs.Prelude.{ℕ, ◌+◌, ◌==◌, List, [], ◌∷◌, ◌++◌, Bool, true, false, Option, Some, None, slice_get, if◌then◌else◌}
 use Rattle.std.specs.List.{list_any}
-use Rattle.pg_ir.specs.declared.ids.InstrId.{InstrId}
-use Rattle.pg_ir.specs.declared.library_call.LibraryCall.{LibraryCall}
-use Rattle.pg_ir.specs.declared.library_call.LibraryCall.TheVariants.{PgIn, PgInLen}
-use Rattle.pg_ir.specs.declared.value.Value.{Value}
-use Rattle.pg_ir.specs.declared.value.Scalar.{Scalar}
-use Rattle.pg_ir.specs.declared.instr.Instr.{Instr}
-use Rattle.pg_ir.specs.declared.instr.Op.{Op}
-use Rattle.pg_ir.specs.declared.instr.Op.TheVariants as op
-use Rattle.pg_ir.specs.Program.{NumberedProgram, types_of, function_of, first_of}
-use Rattle.pg_ir.specs.Edges.{instrs_of}
+use Rattle.pg_region_paths.specs.pg_ir.declared.ids.InstrId.{InstrId}
+use Rattle.pg_region_paths.specs.pg_ir.declared.library_call.LibraryCall.{LibraryCall}
+use Rattle.pg_region_paths.specs.pg_ir.declared.library_call.LibraryCall.TheVariants.{PgIn, PgInLen}
+use Rattle.pg_region_paths.specs.pg_ir.declared.value.Value.{Value}
+use Rattle.pg_region_paths.specs.pg_ir.declared.value.Scalar.{Scalar}
+use Rattle.pg_region_paths.specs.pg_ir.declared.instr.Instr.{Instr}
+use Rattle.pg_region_paths.specs.pg_ir.declared.instr.Op.{Op}
+use Rattle.pg_region_paths.specs.pg_ir.declared.instr.Op.TheVariants as op
+use Rattle.pg_region_paths.specs.pg_ir.Program.{NumberedProgram, types_of, function_of, first_of}
+use Rattle.pg_region_paths.specs.pg_ir.Edges.{instrs_of}
 use Rattle.pg_region_paths.specs.declared.path.Root.{Root}
 use Rattle.pg_region_paths.specs.declared.path.Root.TheVariants as root
 use Rattle.pg_region_paths.specs.declared.path.RootPath.{RootPath}

@@ -1,6 +1,6 @@
 -- Blocks that are quiet within no set of blocks.
 use Rattle.std.specs.Prelude.{◌≡◌, ℕ, ◌<◌, List, length, Bool, true, false, Option, Some, None}
-use Rattle.pg_ir.specs.Program.{NumberedProgram}
+use Rattle.pg_region_paths.specs.pg_ir.Program.{NumberedProgram}
 use Rattle.pg_region_accesses.specs.Accesses.{RootedList, block_accesses}
 use Rattle.pg_region_accesses.specs.Tables.{in_table}
 

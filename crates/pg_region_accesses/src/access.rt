@@ -8,7 +8,7 @@ ghost use Rattle.pg_region_accesses.specs.Appends.{Appends};
 ghost use Rattle.pg_region_accesses.specs.Tables.{in_table};
 
 use crate::rooted::{Rooted, Summary};
-use pg_ir::{InstrId, Op, Value};
+use pg_region_paths::pg_ir::{InstrId, Op, Value};
 use pg_region_paths::{Path, Root, RootPaths};
 use std::alloc::AllocError;
 
@@ -119,11 +119,12 @@ fn is_gated(gated: &[bool], instr: InstrId) -> bool
 }
 
 /// Whether a call of a function that the program doesn't define is quiet: those that read the input are.
-fn is_quiet(function: pg_ir::LibraryCall) -> bool
+fn is_quiet(function: pg_region_paths::pg_ir::LibraryCall) -> bool
     ensures { result ≡ is_some (known_accesses function) }
 {
     match function {
-        pg_ir::LibraryCall::PgIn | pg_ir::LibraryCall::PgInLen => true,
+        pg_region_paths::pg_ir::LibraryCall::PgIn | pg_region_paths::pg_ir::LibraryCall::PgInLen =>
+            true,
         _ => false,
     }
 }

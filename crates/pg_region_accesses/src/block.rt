@@ -1,7 +1,7 @@
 //! The accesses of a basic block, and whether it is quiet.
 
 ghost use Rattle.std.specs.Prelude.{◌≡◌, ℕ, ◌<◌, ◌≤◌, length, All, IfOk, OnOk, IfSome, option_map, if◌then◌else◌};
-ghost use Rattle.pg_num.specs.declared.limits.TheConstants.{FUNCTION_REGISTER_LIMIT};
+ghost use Rattle.pg_region_paths.specs.pg_num.declared.limits.TheConstants.{FUNCTION_REGISTER_LIMIT};
 ghost use Rattle.pg_region_paths.specs.RootPaths.{path_in, set_in, count_in};
 ghost use Rattle.pg_region_paths.specs.Fits.{FitsGep};
 ghost use Rattle.pg_region_paths.specs.Registers.{is_register, has_pointer, path_by};
@@ -14,9 +14,9 @@ use crate::access::push_op;
 use crate::count::block_count;
 use crate::register_sets::{none_of, sets_of};
 use crate::rooted::{Rooted, Summary};
-use pg_ir::{BlockNo, Instr, InstrId, Program, Scalar};
-use pg_num::limits::FUNCTION_REGISTER_LIMIT;
 use pg_region_paths::RootPaths;
+use pg_region_paths::pg_ir::{BlockNo, Instr, InstrId, Program, Scalar};
+use pg_region_paths::pg_num::limits::FUNCTION_REGISTER_LIMIT;
 use std::alloc::{AllocError, Global};
 
 /// Adds what an instruction accesses, passes it, and gives whether it is quiet; a return is where `may_return` says so.

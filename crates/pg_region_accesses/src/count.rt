@@ -2,7 +2,7 @@
 
 ghost use Rattle.std.specs.Prelude.{◌≡◌, ◌≤◌, ◌^◌, length};
 
-use pg_ir::{InstrId, Program};
+use pg_region_paths::pg_ir::{InstrId, Program};
 
 /// How many basic blocks a program has.
 pub fn block_count(p: &Program) -> u64

@@ -1,14 +1,14 @@
 //! The registers that blocks may set.
 
 ghost use Rattle.std.specs.Prelude.{◌≡◌, ℕ, ◌<◌, length, All, ◌||◌, IfOk, IfSome, false, replicate};
-ghost use Rattle.pg_ir.specs.declared.ids.InstrId.{InstrId};
-ghost use Rattle.pg_num.specs.declared.limits.TheConstants.{FUNCTION_REGISTER_LIMIT};
+ghost use Rattle.pg_region_paths.specs.pg_ir.declared.ids.InstrId.{InstrId};
+ghost use Rattle.pg_region_paths.specs.pg_num.declared.limits.TheConstants.{FUNCTION_REGISTER_LIMIT};
 ghost use Rattle.pg_region_paths.specs.Registers.{is_register};
 ghost use Rattle.pg_region_accesses.specs.Accesses.{block_sets, is_gated, sets};
 ghost use Rattle.pg_region_accesses.specs.Tables.{in_table};
 
-use pg_ir::{BlockNo, InstrId, Program};
-use pg_num::limits::FUNCTION_REGISTER_LIMIT;
+use pg_region_paths::pg_ir::{BlockNo, InstrId, Program};
+use pg_region_paths::pg_num::limits::FUNCTION_REGISTER_LIMIT;
 use std::alloc::{AllocError, Global};
 
 /// Adds a number to a set, if there is one.

@@ -1,7 +1,7 @@
 //! Accesses whose root paths are known.
 
-use pg_ir::InstrId;
 use pg_region_paths::RootPath;
+use pg_region_paths::pg_ir::InstrId;
 
 /// An access of a load or store instruction: whether it writes, and the root path of its pointer.
 #[derive(Clone, Copy, Debug, PartialEq, Eq)]

@@ -5,7 +5,7 @@ use Rattle.pg_ir.specs.declared.value.Value.{Value}
 use Rattle.pg_ir.specs.declared.value.Value.TheVariants as value
 use Rattle.pg_ir.specs.declared.value.Index.{Index}
 use Rattle.pg_ir.specs.declared.value.Scalar.{Scalar}
-use Rattle.pg_num.specs.declared.width.Width.{Width}
+use Rattle.pg_ir.specs.pg_num.declared.width.Width.{Width}
 use Rattle.pg_ir.specs.declared.instr.Instr.{Instr}
 use Rattle.pg_ir.specs.declared.instr.Op.{Op}
 use Rattle.pg_ir.specs.declared.instr.Op.TheVariants as op

@@ -1,8 +1,8 @@
 -- Constant indices have the width of their index.
 use Rattle.std.specs.Prelude.{ℕ, ◌<◌, List}
 use Rattle.std.specs.List.{AllByRecursion}
-use Rattle.pg_num.specs.Numbers.{modulus}
-use Rattle.pg_num.specs.declared.width.Width.{Width}
+use Rattle.pg_ir.specs.pg_num.Numbers.{modulus}
+use Rattle.pg_ir.specs.pg_num.declared.width.Width.{Width}
 use Rattle.pg_ir.specs.declared.value.Value.{Value}
 use Rattle.pg_ir.specs.declared.value.Value.TheVariants as value
 use Rattle.pg_ir.specs.declared.value.Index.{Index}

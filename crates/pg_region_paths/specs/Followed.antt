@@ -1,8 +1,8 @@
 -- A root path followed in memory: registers have numbers or were never set, and each place of eight bytes has a number.
 use Rattle.std.specs.Prelude.{ℕ, List, [], ◌∷◌, pos, Option, Some, None, Result, Ok, Err, option_map, option_and_then, slice_get}
-use Rattle.pg_num.specs.Places.{ByteRange}
-use Rattle.pg_num.specs.Pointers.{pointer_of, moved_by, place_of}
-use Rattle.pg_num.specs.declared.places.PlaceFault.{PlaceFault}
+use Rattle.pg_ir.specs.pg_num.Places.{ByteRange}
+use Rattle.pg_ir.specs.pg_num.Pointers.{pointer_of, moved_by, place_of}
+use Rattle.pg_ir.specs.pg_num.declared.places.PlaceFault.{PlaceFault}
 pub use Rattle.pg_ir.specs.Program.{pointer_to}
 use Rattle.pg_ir.specs.Program.{NumberedProgram}
 use Rattle.pg_region_paths.specs.declared.path.Root.{Root}

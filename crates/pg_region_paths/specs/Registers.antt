@@ -1,8 +1,8 @@
 -- The root paths of registers, within a set of basic blocks that is known by the registers that it sets.
 use Rattle.std.specs.Prelude.{◌≡◌, ℕ, ◌==◌, ◌*ℤ◌, ℤ, pos, List, [], ◌∷◌, Bool, true, false, Option, Some, None, option_and_then, option_map, slice_get, if◌then◌else◌}
-use Rattle.pg_num.specs.Numbers.{signed}
-use Rattle.pg_num.specs.Pointers.{moved_by}
-use Rattle.pg_num.specs.declared.width.Width.{Width}
+use Rattle.pg_ir.specs.pg_num.Numbers.{signed}
+use Rattle.pg_ir.specs.pg_num.Pointers.{moved_by}
+use Rattle.pg_ir.specs.pg_num.declared.width.Width.{Width}
 use Rattle.pg_ir.specs.declared.value.Value.{Value}
 use Rattle.pg_ir.specs.declared.value.Value.TheVariants as value
 use Rattle.pg_ir.specs.declared.value.Index.{Index}

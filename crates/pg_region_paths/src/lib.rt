@@ -8,4 +8,6 @@ mod root_paths;
 
 pub use entry::Entry;
 pub use path::{Loads, Path, Root, RootPath};
+pub use pg_ir;
+pub use pg_ir::pg_num;
 pub use root_paths::RootPaths;

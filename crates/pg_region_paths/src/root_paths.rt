@@ -2,16 +2,16 @@
 
 ghost use Rattle.std.specs.Prelude.{◌≡◌, ◌<◌, ◌==◌, ℕ, length, IfOk, OnOk, IfSome, Some, if◌then◌else◌};
 ghost use Rattle.std.specs.List.{AllByRecursion};
-ghost use Rattle.pg_num.specs.Numbers.{modulus};
-ghost use Rattle.pg_num.specs.Pointers.{moved_by};
+ghost use Rattle.pg_ir.specs.pg_num.Numbers.{modulus};
+ghost use Rattle.pg_ir.specs.pg_num.Pointers.{moved_by};
 ghost use Rattle.pg_region_paths.specs.RootPaths.{root_at, set_in, path_in, count_in};
 ghost use Rattle.pg_region_paths.specs.Registers.{value_path, path_by, is_register, has_pointer, constant_bytes, added_index, added_indices};
 ghost use Rattle.pg_region_paths.specs.Fits.{FitsConstant, FitsGep};
 
 use crate::entry::Entry;
 use crate::path::{Path, Root};
+use pg_ir::pg_num::{Width, move_by, move_by_index};
 use pg_ir::{Index, Instr, Op, Scalar, Scale, Value};
-use pg_num::{Width, move_by, move_by_index};
 use std::alloc::{AllocError, Global};
 use std::marker::Model;
 

@@ -1,21 +1,21 @@
 -- Each action of a program's thread is where its step's operands point to.
 use Rattle.std.proofs.Common.{◌≡◌, ℕ, List, [], ◌∷◌, length, Bool, true, false, Option, Some, None, Result, Ok, Err, refl, sym, ◌∙◌, ap, subst}
 use Rattle.std.specs.Prelude.{slice_get, slice_index, not, ◌==◌, if◌then◌else◌}
-use Rattle.pg_num.specs.Numbers.{divided}
-use Rattle.pg_num.specs.Places.{ByteRange}
-use Rattle.pg_num.specs.Pointers.{byte_place, is_aligned, is_in_range, place_of}
-use Rattle.pg_num.specs.declared.places.PlaceFault.{PlaceFault}
-use Rattle.pg_num.specs.declared.places.PlaceFault.TheVariants as fault
-use Rattle.pg_ir.specs.declared.library_call.LibraryCall.{LibraryCall}
-use Rattle.pg_ir.specs.declared.library_call.LibraryCall.TheVariants as known
-use Rattle.pg_ir.specs.declared.request.Request.TheVariants as requests
-use Rattle.pg_ir.specs.declared.request.TrapName.TheVariants as traps
-use Rattle.pg_ir.specs.declared.value.Value.{Value}
-use Rattle.pg_ir.specs.declared.instr.Op.{Op}
-use Rattle.pg_ir.specs.declared.instr.Op.TheVariants as op
-use Rattle.pg_ir.specs.declared.instr.Instr.{Instr}
-use Rattle.pg_ir.specs.Program.{NumberedProgram}
-use Rattle.pg_ir.specs.WellFormed.{granules_for}
+use Rattle.pg_run_trace.specs.pg_num.Numbers.{divided}
+use Rattle.pg_run_trace.specs.pg_num.Places.{ByteRange}
+use Rattle.pg_run_trace.specs.pg_num.Pointers.{byte_place, is_aligned, is_in_range, place_of}
+use Rattle.pg_run_trace.specs.pg_num.declared.places.PlaceFault.{PlaceFault}
+use Rattle.pg_run_trace.specs.pg_num.declared.places.PlaceFault.TheVariants as fault
+use Rattle.pg_run_trace.specs.pg_ir.declared.library_call.LibraryCall.{LibraryCall}
+use Rattle.pg_run_trace.specs.pg_ir.declared.library_call.LibraryCall.TheVariants as known
+use Rattle.pg_run_trace.specs.pg_ir.declared.request.Request.TheVariants as requests
+use Rattle.pg_run_trace.specs.pg_ir.declared.request.TrapName.TheVariants as traps
+use Rattle.pg_run_trace.specs.pg_ir.declared.value.Value.{Value}
+use Rattle.pg_run_trace.specs.pg_ir.declared.instr.Op.{Op}
+use Rattle.pg_run_trace.specs.pg_ir.declared.instr.Op.TheVariants as op
+use Rattle.pg_run_trace.specs.pg_ir.declared.instr.Instr.{Instr}
+use Rattle.pg_run_trace.specs.pg_ir.Program.{NumberedProgram}
+use Rattle.pg_run_trace.specs.pg_ir.WellFormed.{granules_for}
 use Rattle.pg_run_thread.specs.declared.action.Action.{Action}
 use Rattle.pg_run_thread.specs.declared.action.Action.TheVariants as actions
 use Rattle.pg_run_thread.specs.declared.thread_memory.ThreadMemory.{ThreadMemory}

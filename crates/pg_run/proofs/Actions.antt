@@ -2,19 +2,19 @@
 -- is done where operands are set and places are found.
 use Rattle.std.proofs.Common.{◌≡◌, ℕ, ◌+◌, List, length, Bool, true, false, Option, Some, None, Result, Ok, Err, refl}
 use Rattle.std.specs.Prelude.{not, nat_le, ◌==◌, if◌then◌else◌}
-use Rattle.pg_num.specs.Places.{ByteRange}
-use Rattle.pg_num.specs.Pointers.{is_in_range, is_aligned, byte_place}
-use Rattle.pg_num.specs.declared.limits.TheConstants.{CALL_DEPTH_LIMIT, THREAD_REGISTER_LIMIT}
-use Rattle.pg_num.specs.declared.operations.DivideFault.{DivideFault}
-use Rattle.pg_num.specs.declared.operations.DivideFault.TheVariants as divide
-use Rattle.pg_num.specs.declared.places.PlaceFault.TheVariants as fault
-use Rattle.pg_ir.specs.declared.request.Request.{Request}
-use Rattle.pg_ir.specs.declared.request.Request.TheVariants as requests
-use Rattle.pg_ir.specs.declared.request.TrapName.{TrapName}
-use Rattle.pg_ir.specs.declared.request.TrapName.TheVariants as traps
-use Rattle.pg_ir.specs.declared.value.Value.{Value}
-use Rattle.pg_ir.specs.Program.{NumberedProgram, types_of}
-use Rattle.pg_ir.specs.Edges.{phis_of}
+use Rattle.pg_run_trace.specs.pg_num.Places.{ByteRange}
+use Rattle.pg_run_trace.specs.pg_num.Pointers.{is_in_range, is_aligned, byte_place}
+use Rattle.pg_run_trace.specs.pg_num.declared.limits.TheConstants.{CALL_DEPTH_LIMIT, THREAD_REGISTER_LIMIT}
+use Rattle.pg_run_trace.specs.pg_num.declared.operations.DivideFault.{DivideFault}
+use Rattle.pg_run_trace.specs.pg_num.declared.operations.DivideFault.TheVariants as divide
+use Rattle.pg_run_trace.specs.pg_num.declared.places.PlaceFault.TheVariants as fault
+use Rattle.pg_run_trace.specs.pg_ir.declared.request.Request.{Request}
+use Rattle.pg_run_trace.specs.pg_ir.declared.request.Request.TheVariants as requests
+use Rattle.pg_run_trace.specs.pg_ir.declared.request.TrapName.{TrapName}
+use Rattle.pg_run_trace.specs.pg_ir.declared.request.TrapName.TheVariants as traps
+use Rattle.pg_run_trace.specs.pg_ir.declared.value.Value.{Value}
+use Rattle.pg_run_trace.specs.pg_ir.Program.{NumberedProgram, types_of}
+use Rattle.pg_run_trace.specs.pg_ir.Edges.{phis_of}
 use Rattle.pg_run_thread.specs.declared.action.Action.{Action}
 use Rattle.pg_run_thread.specs.declared.action.Action.TheVariants as actions
 use Rattle.pg_run_thread.specs.EdgeStep.{have_values}

@@ -2,10 +2,10 @@
 use Rattle.std.proofs.Common.{◌≡◌, ℕ, ◌+◌, ◌<◌, List, [], ◌∷◌, ◌++◌, length, map, Bool, true, false, Option, Some, None, refl, sym, ◌∙◌, ap}
 use Rattle.std.specs.Prelude.{slice_get, slice_set, filter, find, not, nat_lt, ◌==◌, ◌&&◌, if◌then◌else◌}
 use Rattle.std.proofs.lemmas.List.{length-append}
-use Rattle.pg_num.specs.Places.{ByteRange}
-use Rattle.pg_ir.specs.declared.request.Request.{Request}
-use Rattle.pg_ir.specs.declared.request.Request.TheVariants as requests
-use Rattle.pg_ir.specs.declared.request.TrapName.TheVariants.{WrongObject}
+use Rattle.pg_run_trace.specs.pg_num.Places.{ByteRange}
+use Rattle.pg_run_trace.specs.pg_ir.declared.request.Request.{Request}
+use Rattle.pg_run_trace.specs.pg_ir.declared.request.Request.TheVariants as requests
+use Rattle.pg_run_trace.specs.pg_ir.declared.request.TrapName.TheVariants.{WrongObject}
 use Rattle.pg_run_objects.specs.declared.object.Object.{Object}
 use Rattle.pg_run_objects.specs.declared.object.Object.TheVariants as objects
 use Rattle.pg_run_objects.specs.declared.status.Stage.{Stage}

@@ -2,21 +2,21 @@
 -- stores fit their bytes.
 use Rattle.std.proofs.Common.{◌≡◌, ℕ, ◌<◌, ◌^◌, ◌*◌, List, [], ◌∷◌, length, Bool, true, false, Option, Some, None, arith, lit<, refl, sym, subst, inl, inr}
 use Rattle.std.specs.Prelude.{slice_get, ◌==◌}
-use Rattle.pg_num.specs.Numbers.{modulus, divided}
-use Rattle.pg_num.specs.Places.{ByteRange}
-use Rattle.pg_num.specs.declared.width.Width.{Width}
-use Rattle.pg_num.specs.declared.width.Width.TheVariants.{W1, W8, W16, W32, W64}
-use Rattle.pg_ir.specs.declared.library_call.LibraryCall.{LibraryCall}
-use Rattle.pg_ir.specs.declared.library_call.LibraryCall.TheVariants as known
-use Rattle.pg_ir.specs.declared.value.Scalar.{Scalar}
-use Rattle.pg_ir.specs.declared.value.Scalar.TheVariants.{Int, Ptr}
-use Rattle.pg_ir.specs.declared.value.Value.{Value}
-use Rattle.pg_ir.specs.declared.value.Value.TheVariants as value
-use Rattle.pg_ir.specs.declared.instr.Op.{Op}
-use Rattle.pg_ir.specs.declared.instr.Op.TheVariants as op
-use Rattle.pg_ir.specs.declared.instr.Instr.{Instr}
-use Rattle.pg_ir.specs.Program.{NumberedProgram, types_of, function_of, result_of}
-use Rattle.pg_ir.specs.WellFormed.{IsProgram, FitsOp, FitsStored, FitLibraryCall, FitCreate, StartsThread, BeginsThread, type_at}
+use Rattle.pg_run_trace.specs.pg_num.Numbers.{modulus, divided}
+use Rattle.pg_run_trace.specs.pg_num.Places.{ByteRange}
+use Rattle.pg_run_trace.specs.pg_num.declared.width.Width.{Width}
+use Rattle.pg_run_trace.specs.pg_num.declared.width.Width.TheVariants.{W1, W8, W16, W32, W64}
+use Rattle.pg_run_trace.specs.pg_ir.declared.library_call.LibraryCall.{LibraryCall}
+use Rattle.pg_run_trace.specs.pg_ir.declared.library_call.LibraryCall.TheVariants as known
+use Rattle.pg_run_trace.specs.pg_ir.declared.value.Scalar.{Scalar}
+use Rattle.pg_run_trace.specs.pg_ir.declared.value.Scalar.TheVariants.{Int, Ptr}
+use Rattle.pg_run_trace.specs.pg_ir.declared.value.Value.{Value}
+use Rattle.pg_run_trace.specs.pg_ir.declared.value.Value.TheVariants as value
+use Rattle.pg_run_trace.specs.pg_ir.declared.instr.Op.{Op}
+use Rattle.pg_run_trace.specs.pg_ir.declared.instr.Op.TheVariants as op
+use Rattle.pg_run_trace.specs.pg_ir.declared.instr.Instr.{Instr}
+use Rattle.pg_run_trace.specs.pg_ir.Program.{NumberedProgram, types_of, function_of, result_of}
+use Rattle.pg_run_trace.specs.pg_ir.WellFormed.{IsProgram, FitsOp, FitsStored, FitLibraryCall, FitCreate, StartsThread, BeginsThread, type_at}
 use Rattle.pg_run_thread.specs.declared.thread_memory.ThreadMemory.{ThreadMemory}
 use Rattle.pg_run_thread.specs.LocalState.{Frame, LocalState, own_memory}
 use Rattle.pg_run_thread.specs.Operands.{operand, argument, given, operands_of}
@@ -25,7 +25,7 @@ use Rattle.pg_run_thread.specs.EdgeStep.{case_of}
 use Rattle.pg_run_thread.specs.Step.{next, frames_action, instr_action, op_action, library_action, return_action, returning_action, bytes_of, total, has_room}
 use Rattle.pg_run_thread.specs.States.{IsOf, AreFramesOf, AreValuesOf, StandsAt}
 use Rattle.pg_run_thread.proofs.Typed.{typed_number}
-use Rattle.pg_ir.specs.WellFormed.{granules_for}
+use Rattle.pg_run_trace.specs.pg_ir.WellFormed.{granules_for}
 use Rattle.pg_run.specs.Fits.{ActionFits}
 use Rattle.pg_run.proofs.Actions.{OfTraps, on_value_is, on_all_is, on_place_is, number_is, object_is, init_is, barrier_init_is, wait_is, create_is, join_is, either, edge_is, call_is}
 use Rattle.pg_run.proofs.Actions.{divided_is, room_is}

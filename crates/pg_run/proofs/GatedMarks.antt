@@ -4,7 +4,7 @@ use Rattle.std.proofs.Common.{take_all, refl, sym, ◌∙◌, ap, subst}
 use Rattle.std.specs.Prelude.{slice_get, slice_set, ◌||◌, ◌==◌}
 use Rattle.std.proofs.lemmas.Bool.Decides.{nat_tests}
 use Rattle.std.proofs.lemmas.List.Folds.{list_any-append}
-use Rattle.pg_ir.specs.declared.ids.InstrId.{InstrId}
+use Rattle.pg_run_trace.specs.pg_ir.declared.ids.InstrId.{InstrId}
 use Rattle.pg_run.specs.MachineStep.{is_gated}
 use Rattle.pg_run.proofs.Threads.{set_own, set_other, set_length}
 

@@ -4,9 +4,9 @@ use Rattle.std.proofs.Common.{subst, arith}
 use Rattle.std.specs.Prelude.{◌==◌, ◌&&◌, ◌↔◌, IsTrue, slice_get, slice_set, slice_index, if◌then◌else◌}
 use Rattle.std.proofs.lemmas.Bool.Decides.{nat_tests}
 use Rattle.std.proofs.lemmas.List.Elements.{filter_map-append}
-use Rattle.pg_ir.specs.declared.ids.InstrId.{InstrId}
-use Rattle.pg_ir.specs.declared.request.TrapName.{TrapName}
-use Rattle.pg_ir.specs.Program.{NumberedProgram}
+use Rattle.pg_run_trace.specs.pg_ir.declared.ids.InstrId.{InstrId}
+use Rattle.pg_run_trace.specs.pg_ir.declared.request.TrapName.{TrapName}
+use Rattle.pg_run_trace.specs.pg_ir.Program.{NumberedProgram}
 use Rattle.pg_run_trace.specs.declared.turn.Turn.{Turn}
 use Rattle.pg_run_trace.specs.declared.turn.TurnKind.{TurnKind}
 use Rattle.pg_run_trace.specs.declared.turn.TurnKind.TheVariants as kinds

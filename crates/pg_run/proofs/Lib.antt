@@ -24,3 +24,4 @@ pub mod ToldTurns
 pub mod Walks
 pub mod OwnSteps
 pub mod WithSteps
+pub use Rattle.pg_run_memory.proofs as of_pg_run_memory

@@ -1,6 +1,6 @@
 -- A step of the rotation run that only its thread decides and sees.
 use Rattle.std.proofs.Common.{◌≡◌, ℕ, ℤ, suc, ◌+◌, ◌-◌, ◌<◌, ◌≤◌, List, [], ◌∷◌, length, true, None, refl, sym, ap, ◌∙◌, arith, length-append}
-use Rattle.pg_ir.specs.Program.{NumberedProgram}
+use Rattle.pg_run_trace.specs.pg_ir.Program.{NumberedProgram}
 use Rattle.pg_run_trace.specs.declared.step.Step.{Step}
 use Rattle.pg_run_trace.specs.Recording.{Recording}
 use Rattle.pg_run.specs.declared.share.Share.{Share}

@@ -4,12 +4,12 @@ use Rattle.std.proofs.Common.{ap, ◌∙◌, subst, arith, inl, inr, length, len
 use Rattle.std.specs.Prelude.{nat_lt, not, ◌&&◌, slice_get, if◌then◌else◌}
 use Rattle.std.proofs.Math.Nat.{add-mod_right, mod-add-mod, mod-eq_of_lt, mod-lt}
 use Rattle.std.proofs.lemmas.Bool.{cases_lt}
-use Rattle.pg_ir.specs.declared.ids.InstrId.{InstrId}
-use Rattle.pg_ir.specs.Program.{NumberedProgram}
+use Rattle.pg_run_trace.specs.pg_ir.declared.ids.InstrId.{InstrId}
+use Rattle.pg_run_trace.specs.pg_ir.Program.{NumberedProgram}
 use Rattle.pg_run_objects.specs.Sync as sync
 use Rattle.pg_run_thread.specs.LocalState.{LocalState}
 use Rattle.pg_run_trace.specs.declared.step.Step.{Step}
-use Rattle.pg_num.specs.declared.limits.TheConstants.{RECORDING_STEP_LIMIT}
+use Rattle.pg_run_trace.specs.pg_num.declared.limits.TheConstants.{RECORDING_STEP_LIMIT}
 use Rattle.pg_run.specs.declared.outcome.Outcome.{Outcome}
 use Rattle.pg_run.specs.declared.outcome.Outcome.TheVariants as ends
 use Rattle.pg_run.specs.declared.outcome.Refusal.TheVariants as refusals

@@ -1,8 +1,8 @@
 -- The rotation run is a run of the machine.
 use Rattle.std.proofs.Common.{◌≡◌, ℕ, ℤ, zero, suc, List, [], Bool, true, false, Option, Some, None, Result, Ok, Err, refl, sym, ap, subst}
 use Rattle.std.specs.Prelude.{length, nat_lt, ◌&&◌, if◌then◌else◌}
-use Rattle.pg_ir.specs.declared.ids.InstrId.{InstrId}
-use Rattle.pg_ir.specs.Program.{NumberedProgram}
+use Rattle.pg_run_trace.specs.pg_ir.declared.ids.InstrId.{InstrId}
+use Rattle.pg_run_trace.specs.pg_ir.Program.{NumberedProgram}
 use Rattle.pg_run_objects.specs.Sync as sync
 use Rattle.pg_run_trace.specs.declared.step.Step.{Step}
 use Rattle.pg_run.specs.declared.outcome.Outcome.{Outcome}
@@ -14,7 +14,7 @@ use Rattle.pg_run.specs.MachineStep.{Answered, Stepped, Did, Trapped, answered, 
 use Rattle.pg_run.specs.State.{next_of}
 use Rattle.pg_run.specs.Rotation.{RunResult, around, chosen, exit_of, first_share, first_true, next_share, on_chosen, on_step, or_at, or_deadlock, rotation_of, run, share_to, stop}
 use Rattle.pg_run.specs.Runs.{IsRun, Takes}
-use Rattle.pg_num.specs.declared.limits.TheConstants.{RECORDING_STEP_LIMIT}
+use Rattle.pg_run_trace.specs.pg_num.declared.limits.TheConstants.{RECORDING_STEP_LIMIT}
 
 -- ---- whose step it is, is ready
 

@@ -2,11 +2,11 @@
 use Rattle.std.proofs.Common.{◌≡◌, ℕ, ℤ, zero, suc, ◌<◌, List, [], ◌∷◌, length, Bool, true, false, Option, Some, None, Result, Ok, Err, arith, refl, sym, ◌∙◌, ap, subst}
 use Rattle.std.specs.Prelude.{slice_get, not, ◌&&◌, IfOk}
 use Rattle.std.proofs.lemmas.Option.{slice_get_within}
-use Rattle.pg_ir.specs.declared.request.Request.{Request}
-use Rattle.pg_ir.specs.declared.request.Request.TheVariants as requests
-use Rattle.pg_ir.specs.declared.request.TrapName.{TrapName}
-use Rattle.pg_ir.specs.Program.{NumberedProgram}
-use Rattle.pg_ir.specs.WellFormed.{IsProgram}
+use Rattle.pg_run_trace.specs.pg_ir.declared.request.Request.{Request}
+use Rattle.pg_run_trace.specs.pg_ir.declared.request.Request.TheVariants as requests
+use Rattle.pg_run_trace.specs.pg_ir.declared.request.TrapName.{TrapName}
+use Rattle.pg_run_trace.specs.pg_ir.Program.{NumberedProgram}
+use Rattle.pg_run_trace.specs.pg_ir.WellFormed.{IsProgram}
 use Rattle.pg_run_objects.specs.declared.status.Stage.{Stage}
 use Rattle.pg_run_objects.specs.declared.status.Stage.TheVariants as stages
 use Rattle.pg_run_objects.specs.declared.reply.Reply.{Reply}

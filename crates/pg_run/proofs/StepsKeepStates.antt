@@ -6,9 +6,9 @@ use Rattle.std.proofs.lemmas.Bool.Decides.{nat_tests}
 use Rattle.std.proofs.lemmas.List.{length-append}
 use Rattle.std.proofs.lemmas.List.Elements.{All-set, All-append}
 use Rattle.std.proofs.lemmas.Option.{slice_get_within, get_or_from_slice_get}
-use Rattle.pg_num.specs.declared.limits.TheConstants.{THREAD_LIMIT}
-use Rattle.pg_ir.specs.Program.{NumberedProgram}
-use Rattle.pg_ir.specs.WellFormed.{IsProgram, BeginsThread}
+use Rattle.pg_run_trace.specs.pg_num.declared.limits.TheConstants.{THREAD_LIMIT}
+use Rattle.pg_run_trace.specs.pg_ir.Program.{NumberedProgram}
+use Rattle.pg_run_trace.specs.pg_ir.WellFormed.{IsProgram, BeginsThread}
 use Rattle.pg_run_thread.specs.declared.action.Action.{Action}
 use Rattle.pg_run_thread.specs.LocalState.{LocalState, fresh}
 use Rattle.pg_run_thread.specs.Step.{next, after}

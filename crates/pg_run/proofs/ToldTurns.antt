@@ -1,15 +1,15 @@
 -- What a step tells: its event is the turn that it was, and what is told before it is done is filled after.
 use Rattle.std.proofs.Common.{◌≡◌, ℕ, List, Bool, true, false, Option, Some, None, refl, sym, ◌∙◌, ap, subst}
 use Rattle.std.specs.Prelude.{slice_get, slice_index, if◌then◌else◌}
-use Rattle.pg_num.specs.Places.{ByteRange}
-use Rattle.pg_num.specs.Pointers.{byte_place}
-use Rattle.pg_ir.specs.declared.ids.InstrId.{InstrId}
-use Rattle.pg_ir.specs.declared.library_call.LibraryCall.{LibraryCall}
-use Rattle.pg_ir.specs.declared.library_call.LibraryCall.TheVariants as known
-use Rattle.pg_ir.specs.declared.instr.Op.{Op}
-use Rattle.pg_ir.specs.declared.instr.Op.TheVariants as op
-use Rattle.pg_ir.specs.declared.instr.Instr.{Instr}
-use Rattle.pg_ir.specs.Program.{NumberedProgram}
+use Rattle.pg_run_trace.specs.pg_num.Places.{ByteRange}
+use Rattle.pg_run_trace.specs.pg_num.Pointers.{byte_place}
+use Rattle.pg_run_trace.specs.pg_ir.declared.ids.InstrId.{InstrId}
+use Rattle.pg_run_trace.specs.pg_ir.declared.library_call.LibraryCall.{LibraryCall}
+use Rattle.pg_run_trace.specs.pg_ir.declared.library_call.LibraryCall.TheVariants as known
+use Rattle.pg_run_trace.specs.pg_ir.declared.instr.Op.{Op}
+use Rattle.pg_run_trace.specs.pg_ir.declared.instr.Op.TheVariants as op
+use Rattle.pg_run_trace.specs.pg_ir.declared.instr.Instr.{Instr}
+use Rattle.pg_run_trace.specs.pg_ir.Program.{NumberedProgram}
 use Rattle.pg_run_thread.specs.declared.action.Action.{Action}
 use Rattle.pg_run_thread.specs.declared.action.Action.TheVariants as actions
 use Rattle.pg_run_trace.specs.declared.step.Step.{Step}

@@ -4,9 +4,9 @@ use Rattle.std.proofs.Common.{Result, Ok, Err, refl, sym, ap, ◌∙◌, arith, 
 use Rattle.std.specs.Prelude.{get_or, slice_set, slice_index, sum}
 use Rattle.std.proofs.lemmas.List.{drop_more}
 use Rattle.std.proofs.lemmas.List.Sums.{sum_by-cons}
-use Rattle.pg_ir.specs.declared.ids.InstrId.{InstrId}
-use Rattle.pg_ir.specs.declared.request.TrapName.{TrapName}
-use Rattle.pg_ir.specs.Program.{NumberedProgram}
+use Rattle.pg_run_trace.specs.pg_ir.declared.ids.InstrId.{InstrId}
+use Rattle.pg_run_trace.specs.pg_ir.declared.request.TrapName.{TrapName}
+use Rattle.pg_run_trace.specs.pg_ir.Program.{NumberedProgram}
 use Rattle.pg_run_trace.specs.declared.step.Step.{Step}
 use Rattle.pg_run_trace.specs.declared.turn.Turn.{Turn}
 use Rattle.pg_run.specs.declared.guided_end.GuidedEnd.{GuidedEnd}

@@ -3,9 +3,9 @@ use Rattle.std.proofs.Common.{◌≡◌, ℕ, ℤ, suc, ◌+◌, ◌-◌, ◌<�
 use Rattle.std.proofs.Common.{Err, refl, sym, ap, ◌∙◌, arith, subst, length-append, append_assoc, append-nil}
 use Rattle.std.specs.Prelude.{get_or, slice_set, slice_index, IfNone, IfSome}
 use Rattle.std.proofs.lemmas.List.{drop_more}
-use Rattle.pg_ir.specs.declared.ids.InstrId.{InstrId}
-use Rattle.pg_ir.specs.declared.request.TrapName.{TrapName}
-use Rattle.pg_ir.specs.Program.{NumberedProgram}
+use Rattle.pg_run_trace.specs.pg_ir.declared.ids.InstrId.{InstrId}
+use Rattle.pg_run_trace.specs.pg_ir.declared.request.TrapName.{TrapName}
+use Rattle.pg_run_trace.specs.pg_ir.Program.{NumberedProgram}
 use Rattle.pg_run_objects.specs.Sync as sync
 use Rattle.pg_run_thread.specs.declared.action.Action.{Action}
 use Rattle.pg_run_thread.specs.declared.action.Action.TheVariants as actions

@@ -1,13 +1,13 @@
 -- A run's state with the input and the gated instructions of the run.
 use Rattle.std.specs.Prelude.{ℕ, ℤ, List, length, nat_lt, Option, Some, None, if◌then◌else◌}
-use Rattle.pg_ir.specs.declared.ids.InstrId.{InstrId}
+use Rattle.pg_run_trace.specs.pg_ir.declared.ids.InstrId.{InstrId}
 use Rattle.pg_run.specs.declared.machine.Stepped.{Stepped}
 use Rattle.pg_run.specs.declared.machine.Stepped.TheVariants as answers
 use Rattle.pg_run.specs.declared.machine.Next.{Next}
 use Rattle.pg_run.specs.declared.machine.Next.TheVariants as nexts
 use Rattle.pg_run.specs.State.{State, next_of, instr_of}
 use Rattle.pg_run.specs.MachineStep as steps
-use Rattle.pg_ir.specs.Program.{NumberedProgram}
+use Rattle.pg_run_trace.specs.pg_ir.Program.{NumberedProgram}
 use Rattle.pg_run_thread.specs.declared.action.Action.{Action}
 use Rattle.pg_run_thread.specs.declared.action.Action.TheVariants as actions
 use Rattle.pg_run_trace.specs.declared.turn.Turn.{Turn}

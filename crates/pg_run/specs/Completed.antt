@@ -1,8 +1,8 @@
 -- What a request leaves beside the objects, where it makes no thread, but for what it prints.
 use Rattle.std.specs.Prelude.{ℕ, Result, Ok, Err, slice_set, slice_index}
-use Rattle.pg_ir.specs.declared.request.Request.{Request}
-use Rattle.pg_ir.specs.declared.request.Request.TheVariants as requests
-use Rattle.pg_ir.specs.declared.request.TrapName.{TrapName}
+use Rattle.pg_run_trace.specs.pg_ir.declared.request.Request.{Request}
+use Rattle.pg_run_trace.specs.pg_ir.declared.request.Request.TheVariants as requests
+use Rattle.pg_run_trace.specs.pg_ir.declared.request.TrapName.{TrapName}
 use Rattle.pg_run_objects.specs.declared.reply.Reply.{Reply}
 use Rattle.pg_run_objects.specs.Sync as sync
 use Rattle.pg_run.specs.State.{State}

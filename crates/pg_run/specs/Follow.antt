@@ -1,9 +1,9 @@
 -- What following a schedule gives: the guided run with its trace, where it exits within the limit on the
 -- steps of a recording.
 use Rattle.std.specs.Prelude.{ℕ, nat_lt, ℤ, List, length, if◌then◌else◌}
-use Rattle.pg_num.specs.declared.limits.TheConstants.{RECORDING_STEP_LIMIT}
-use Rattle.pg_ir.specs.declared.ids.InstrId.{InstrId}
-use Rattle.pg_ir.specs.Program.{NumberedProgram}
+use Rattle.pg_run_trace.specs.pg_num.declared.limits.TheConstants.{RECORDING_STEP_LIMIT}
+use Rattle.pg_run_trace.specs.pg_ir.declared.ids.InstrId.{InstrId}
+use Rattle.pg_run_trace.specs.pg_ir.Program.{NumberedProgram}
 use Rattle.pg_run_trace.specs.declared.turn.Turn.{Turn}
 use Rattle.pg_run_trace.specs.declared.step.Step.{Step}
 use Rattle.pg_run.specs.declared.guided_end.GuidedEnd.{GuidedEnd}

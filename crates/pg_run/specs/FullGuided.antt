@@ -1,9 +1,9 @@
 -- The full guided run: after a trap or a spent budget the threads with turns left go on to their next events.
 use Rattle.std.specs.Prelude.{ℕ, zero, suc, ◌==◌, ◌&&◌, ◌||◌, not, ℤ, List, [], ◌∷◌, ◌++◌, drop, Bool, true, false, None, is_some, slice_set, slice_index}
 use Rattle.std.specs.Prelude.{if◌then◌else◌}
-use Rattle.pg_num.specs.declared.limits.TheConstants.{THREAD_LIMIT}
-use Rattle.pg_ir.specs.declared.ids.InstrId.{InstrId}
-use Rattle.pg_ir.specs.Program.{NumberedProgram}
+use Rattle.pg_run_trace.specs.pg_num.declared.limits.TheConstants.{THREAD_LIMIT}
+use Rattle.pg_run_trace.specs.pg_ir.declared.ids.InstrId.{InstrId}
+use Rattle.pg_run_trace.specs.pg_ir.Program.{NumberedProgram}
 use Rattle.pg_run_trace.specs.declared.turn.Turn.{Turn}
 use Rattle.pg_run.specs.declared.guided_end.GuidedEnd.{GuidedEnd}
 use Rattle.pg_run.specs.declared.guided_end.GuidedEnd.TheVariants as ends

@@ -2,10 +2,10 @@
 -- event.
 use Rattle.std.specs.Prelude.{ℕ, zero, suc, ◌+◌, ◌==◌, ◌&&◌, ◌||◌, ℤ, List, [], ◌∷◌, ◌++◌, replicate, Bool, true, false, Option, Some, None, Result, Ok, Err}
 use Rattle.std.specs.Prelude.{slice_set, slice_index, if◌then◌else◌}
-use Rattle.pg_num.specs.declared.limits.TheConstants.{THREAD_LIMIT, GUIDED_STEP_LIMIT}
-use Rattle.pg_ir.specs.declared.ids.InstrId.{InstrId}
-use Rattle.pg_ir.specs.declared.request.TrapName.{TrapName}
-use Rattle.pg_ir.specs.Program.{NumberedProgram}
+use Rattle.pg_run_trace.specs.pg_num.declared.limits.TheConstants.{THREAD_LIMIT, GUIDED_STEP_LIMIT}
+use Rattle.pg_run_trace.specs.pg_ir.declared.ids.InstrId.{InstrId}
+use Rattle.pg_run_trace.specs.pg_ir.declared.request.TrapName.{TrapName}
+use Rattle.pg_run_trace.specs.pg_ir.Program.{NumberedProgram}
 use Rattle.pg_run_objects.specs.Sync as sync
 use Rattle.pg_run_thread.specs.declared.action.Action.{Action}
 use Rattle.pg_run_trace.specs.declared.turn.Turn.{Turn}

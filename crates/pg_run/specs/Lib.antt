@@ -22,3 +22,8 @@ pub mod Texts
 pub mod Walked
 pub mod Went
 pub mod WithSteps
+pub use Rattle.pg_run_trace.specs.pg_law_threads
+pub use Rattle.pg_run_memory.specs as pg_run_memory
+pub use Rattle.pg_run_objects.specs as pg_run_objects
+pub use Rattle.pg_run_thread.specs as pg_run_thread
+pub use Rattle.pg_run_trace.specs as pg_run_trace

@@ -1,7 +1,7 @@
 -- What a step of the machine depends on, and what it changes.
 use Rattle.std.specs.Prelude.{◌≡◌, ℕ, length, Bool, true, false, Option, Some, None, slice_get, slice_index}
-use Rattle.pg_ir.specs.declared.request.Request.{Request}
-use Rattle.pg_ir.specs.declared.request.Request.TheVariants as requests
+use Rattle.pg_run_trace.specs.pg_ir.declared.request.Request.{Request}
+use Rattle.pg_run_trace.specs.pg_ir.declared.request.Request.TheVariants as requests
 use Rattle.pg_run_memory.specs.Memory.{Words, read, written}
 use Rattle.pg_run_thread.specs.declared.action.Action.{Action}
 use Rattle.pg_run_thread.specs.declared.action.Action.TheVariants as actions

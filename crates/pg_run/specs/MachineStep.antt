@@ -2,17 +2,17 @@
 use Rattle.std.specs.Prelude.{◌≡◌, ℕ, ◌==◌, ◌&&◌, not, ℤ, List, [], ◌∷◌, ◌++◌, length, Bool, true, false, Option, Some, None, Result, Ok, Err, slice_get}
 use Rattle.std.specs.Prelude.{slice_set, slice_index, if◌then◌else◌}
 use Rattle.std.specs.List.{list_any}
-use Rattle.pg_num.specs.Places.{ByteRange}
-use Rattle.pg_ir.specs.declared.ids.InstrId.{InstrId}
-use Rattle.pg_ir.specs.declared.library_call.LibraryCall.{LibraryCall}
-use Rattle.pg_ir.specs.declared.library_call.LibraryCall.TheVariants as known
-use Rattle.pg_ir.specs.declared.instr.Op.{Op}
-use Rattle.pg_ir.specs.declared.instr.Op.TheVariants as op
-use Rattle.pg_ir.specs.declared.instr.Instr.{Instr}
-use Rattle.pg_ir.specs.declared.request.Request.{Request}
-use Rattle.pg_ir.specs.declared.request.Request.TheVariants as requests
-use Rattle.pg_ir.specs.declared.request.TrapName.{TrapName}
-use Rattle.pg_ir.specs.Program.{NumberedProgram}
+use Rattle.pg_run_trace.specs.pg_num.Places.{ByteRange}
+use Rattle.pg_run_trace.specs.pg_ir.declared.ids.InstrId.{InstrId}
+use Rattle.pg_run_trace.specs.pg_ir.declared.library_call.LibraryCall.{LibraryCall}
+use Rattle.pg_run_trace.specs.pg_ir.declared.library_call.LibraryCall.TheVariants as known
+use Rattle.pg_run_trace.specs.pg_ir.declared.instr.Op.{Op}
+use Rattle.pg_run_trace.specs.pg_ir.declared.instr.Op.TheVariants as op
+use Rattle.pg_run_trace.specs.pg_ir.declared.instr.Instr.{Instr}
+use Rattle.pg_run_trace.specs.pg_ir.declared.request.Request.{Request}
+use Rattle.pg_run_trace.specs.pg_ir.declared.request.Request.TheVariants as requests
+use Rattle.pg_run_trace.specs.pg_ir.declared.request.TrapName.{TrapName}
+use Rattle.pg_run_trace.specs.pg_ir.Program.{NumberedProgram}
 use Rattle.pg_run_memory.specs.Memory as memory
 use Rattle.pg_run_objects.specs.declared.reply.Reply.{Reply}
 use Rattle.pg_run_objects.specs.Sync as sync
@@ -33,7 +33,7 @@ use Rattle.pg_run_trace.specs.Kinds.{kind_of, object_of}
 use Rattle.pg_run_trace.specs.Recording.{happening_of as request_happening}
 use Rattle.pg_run.specs.State.{State, next_of, instr_of}
 use Rattle.pg_run.specs.Texts.{printed_by}
-use Rattle.pg_num.specs.Inputs.{input_at}
+use Rattle.pg_run_trace.specs.pg_num.Inputs.{input_at}
 
 -- ---- readiness
 

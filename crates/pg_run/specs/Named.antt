@@ -1,8 +1,8 @@
 -- Where a thread's action is in memory, by the numbers of its step's operands.
 use Rattle.std.specs.Prelude.{◌≡◌, ℕ, List, Ok, Some, slice_index}
-use Rattle.pg_num.specs.Pointers.{place_of}
-use Rattle.pg_ir.specs.declared.request.Request.{Request}
-use Rattle.pg_ir.specs.declared.request.Request.TheVariants as requests
+use Rattle.pg_run_trace.specs.pg_num.Pointers.{place_of}
+use Rattle.pg_run_trace.specs.pg_ir.declared.request.Request.{Request}
+use Rattle.pg_run_trace.specs.pg_ir.declared.request.Request.TheVariants as requests
 use Rattle.pg_run_thread.specs.declared.action.Action.{Action}
 use Rattle.pg_run_thread.specs.declared.action.Action.TheVariants as actions
 

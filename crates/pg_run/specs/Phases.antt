@@ -1,13 +1,13 @@
 -- How far a thread has come, by its local state and by its stage among the objects.
 use Rattle.std.specs.Prelude.{List, [], ◌∷◌, Bool, true, false, Option, Some, None, slice_get, if◌then◌else◌}
-use Rattle.pg_ir.specs.declared.library_call.LibraryCall.{LibraryCall}
-use Rattle.pg_ir.specs.declared.library_call.LibraryCall.TheVariants as known
-use Rattle.pg_ir.specs.declared.instr.Op.{Op}
-use Rattle.pg_ir.specs.declared.instr.Op.TheVariants as op
-use Rattle.pg_ir.specs.declared.instr.Instr.{Instr}
-use Rattle.pg_ir.specs.declared.request.Request.{Request}
-use Rattle.pg_ir.specs.declared.request.Request.TheVariants as requests
-use Rattle.pg_ir.specs.Program.{NumberedProgram}
+use Rattle.pg_run_trace.specs.pg_ir.declared.library_call.LibraryCall.{LibraryCall}
+use Rattle.pg_run_trace.specs.pg_ir.declared.library_call.LibraryCall.TheVariants as known
+use Rattle.pg_run_trace.specs.pg_ir.declared.instr.Op.{Op}
+use Rattle.pg_run_trace.specs.pg_ir.declared.instr.Op.TheVariants as op
+use Rattle.pg_run_trace.specs.pg_ir.declared.instr.Instr.{Instr}
+use Rattle.pg_run_trace.specs.pg_ir.declared.request.Request.{Request}
+use Rattle.pg_run_trace.specs.pg_ir.declared.request.Request.TheVariants as requests
+use Rattle.pg_run_trace.specs.pg_ir.Program.{NumberedProgram}
 use Rattle.pg_run_objects.specs.declared.status.Stage.{Stage}
 use Rattle.pg_run_objects.specs.declared.status.Stage.TheVariants as stages
 use Rattle.pg_run_thread.specs.declared.action.Action.{Action}

@@ -1,9 +1,9 @@
 -- Recordings: runs with the threads in any order in which they are ready, and how they end.
 use Rattle.std.specs.Prelude.{◌≡◌, ◌≤◌, ◌⊎◌, ℕ, ℤ, List, [], length, true, false}
-use Rattle.pg_num.specs.declared.limits.TheConstants.{RECORDING_STEP_LIMIT}
-use Rattle.pg_ir.specs.Program.{NumberedProgram}
-use Rattle.pg_ir.specs.declared.ids.InstrId.{InstrId}
-use Rattle.pg_ir.specs.declared.request.TrapName.{TrapName}
+use Rattle.pg_run_trace.specs.pg_num.declared.limits.TheConstants.{RECORDING_STEP_LIMIT}
+use Rattle.pg_run_trace.specs.pg_ir.Program.{NumberedProgram}
+use Rattle.pg_run_trace.specs.pg_ir.declared.ids.InstrId.{InstrId}
+use Rattle.pg_run_trace.specs.pg_ir.declared.request.TrapName.{TrapName}
 use Rattle.pg_run_objects.specs.Sync as sync
 use Rattle.pg_run_trace.specs.declared.step.Step.{Step}
 use Rattle.pg_run.specs.declared.outcome.Outcome.{Outcome}

@@ -1,9 +1,9 @@
 -- The rotation run: threads take their turns in number order, each with up to a quantum of steps.
 use Rattle.std.specs.Prelude.{ℕ, zero, suc, ◌+◌, ◌-◌, ◌%◌, ◌&&◌, not, nat_lt, ℤ, List, [], ◌∷◌, ◌++◌, length, Bool, Option, Some, None, Result, Ok, Err}
 use Rattle.std.specs.Prelude.{if◌then◌else◌}
-use Rattle.pg_num.specs.declared.limits.TheConstants.{RECORDING_STEP_LIMIT}
-use Rattle.pg_ir.specs.declared.request.TrapName.TheVariants.{Deadlock}
-use Rattle.pg_ir.specs.Program.{NumberedProgram}
+use Rattle.pg_run_trace.specs.pg_num.declared.limits.TheConstants.{RECORDING_STEP_LIMIT}
+use Rattle.pg_run_trace.specs.pg_ir.declared.request.TrapName.TheVariants.{Deadlock}
+use Rattle.pg_run_trace.specs.pg_ir.Program.{NumberedProgram}
 use Rattle.pg_run_objects.specs.Sync as sync
 use Rattle.pg_run_trace.specs.declared.step.Step.{Step}
 use Rattle.pg_run.specs.declared.outcome.Outcome.{Outcome}

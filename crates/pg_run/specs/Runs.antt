@@ -1,8 +1,8 @@
 -- A run as a list of steps of the machine, in any order of the threads that are ready: the rotation run,
 -- guided and permitted runs are runs of this kind. What such a list did is said by the steps themselves.
 use Rattle.std.specs.Prelude.{◌≡◌, ℤ, List, [], ◌∷◌, true}
-use Rattle.pg_ir.specs.declared.ids.InstrId.{InstrId}
-use Rattle.pg_ir.specs.Program.{NumberedProgram}
+use Rattle.pg_run_trace.specs.pg_ir.declared.ids.InstrId.{InstrId}
+use Rattle.pg_run_trace.specs.pg_ir.Program.{NumberedProgram}
 use Rattle.pg_run_trace.specs.declared.step.Step.{Step}
 pub use Rattle.pg_run_trace.specs.Steps.{event_of, events, steps_of, turn_at}
 use Rattle.pg_run.specs.State.{State}

@@ -1,8 +1,8 @@
 -- The state of a run.
 use Rattle.std.specs.Prelude.{ℕ, ℤ, List, [], ◌∷◌, Option, Some, None, slice_get}
-use Rattle.pg_num.specs.Numbers.{signed, truncated}
-use Rattle.pg_num.specs.declared.width.Width.TheVariants.{W32}
-use Rattle.pg_ir.specs.Program.{NumberedProgram}
+use Rattle.pg_run_trace.specs.pg_num.Numbers.{signed, truncated}
+use Rattle.pg_run_trace.specs.pg_num.declared.width.Width.TheVariants.{W32}
+use Rattle.pg_run_trace.specs.pg_ir.Program.{NumberedProgram}
 use Rattle.pg_run_memory.specs.Memory.{Words}
 use Rattle.pg_run_memory.specs.Initial as memory
 use Rattle.pg_run_objects.specs.Sync as sync

@@ -1,10 +1,10 @@
 -- What a print writes.
 use Rattle.std.specs.Prelude.{ℕ, ◌%◌, ◌++◌, List, [], ◌∷◌, true, false}
 use Rattle.std.specs.Fmt.{signed_decimal}
-use Rattle.pg_num.specs.Numbers.{signed}
-use Rattle.pg_num.specs.declared.width.Width.TheVariants.{W64}
-use Rattle.pg_ir.specs.declared.request.Request.{Request}
-use Rattle.pg_ir.specs.declared.request.Request.TheVariants as requests
+use Rattle.pg_run_trace.specs.pg_num.Numbers.{signed}
+use Rattle.pg_run_trace.specs.pg_num.declared.width.Width.TheVariants.{W64}
+use Rattle.pg_run_trace.specs.pg_ir.declared.request.Request.{Request}
+use Rattle.pg_run_trace.specs.pg_ir.declared.request.Request.TheVariants as requests
 
 -- a number in signed decimal, with a line feed where it ends its line, or the low byte
 abbrev pub printed_by : Request → List ℕ

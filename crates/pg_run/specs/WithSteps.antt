@@ -1,7 +1,7 @@
 -- A walk and a guided run whose steps go into a recording, or nowhere.
 use Rattle.std.specs.Prelude.{◌≡◌, ℕ, ℤ, List, [], ◌∷◌, ◌++◌, Bool, true, false, Option, Some, None, Result, Ok, Err}
-use Rattle.pg_ir.specs.declared.ids.InstrId.{InstrId}
-use Rattle.pg_ir.specs.Program.{NumberedProgram}
+use Rattle.pg_run_trace.specs.pg_ir.declared.ids.InstrId.{InstrId}
+use Rattle.pg_run_trace.specs.pg_ir.Program.{NumberedProgram}
 use Rattle.pg_run_trace.specs.declared.step.Step.{Step}
 use Rattle.pg_run_trace.specs.declared.turn.Turn.{Turn}
 use Rattle.pg_run_trace.specs.Recording.{Recording}

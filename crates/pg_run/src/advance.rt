@@ -13,9 +13,9 @@ use crate::machine::Stepped;
 use crate::run::Run;
 use crate::state::MachineState;
 use crate::tell::filled;
-use pg_ir::{Program, ThreadNo, TrapName};
 use pg_run_thread::{Action, Advance};
 use pg_run_trace::Step;
+use pg_run_trace::pg_ir::{Program, ThreadNo, TrapName};
 use std::alloc::AllocError;
 
 /// The answer to the action of a step, and the number that its instruction's own register got.

@@ -1,8 +1,8 @@
 //! The answers to actions.
 
 ghost use Rattle.std.specs.Prelude.{◌≡◌, ◌<◌, ◌≤◌, ◌+◌, ◌*◌, ◌^◌, ◌++◌, ◌∷◌, [], length, slice_get, slice_set, slice_index, string_bytes, IfOk, IfSome, OnErr};
-ghost use Rattle.pg_num.specs.declared.limits.TheConstants.{THREAD_LIMIT};
-ghost use Rattle.pg_ir.specs.declared.request.Request.TheVariants as requests;
+ghost use Rattle.pg_run_trace.specs.pg_num.declared.limits.TheConstants.{THREAD_LIMIT};
+ghost use Rattle.pg_run_trace.specs.pg_ir.declared.request.Request.TheVariants as requests;
 ghost use Rattle.pg_run_memory.specs.Memory.{written};
 ghost use Rattle.pg_run_objects.specs.Sync.{applied};
 ghost use Rattle.pg_run.specs.Completed.{completed, on_completed};
@@ -10,14 +10,14 @@ ghost use Rattle.pg_run.specs.Fits.{JoinFits};
 ghost use Rattle.pg_run.specs.Machine.{MayAsk, MayDo};
 ghost use Rattle.pg_run.specs.MachineStep.{answer_of, answered, on_applied, written_if};
 ghost use Rattle.pg_run.specs.Texts.{printed_by};
-ghost use Rattle.pg_num.specs.Inputs.{input_at};
+ghost use Rattle.pg_run_trace.specs.pg_num.Inputs.{input_at};
 
 use crate::run::Run;
 use crate::state::MachineState;
-use pg_ir::{Program, Request, ThreadNo, TrapName};
-use pg_num::{Place, Width, from_signed, to_signed};
 use pg_run_objects::Reply;
 use pg_run_thread::{Action, Fiber};
+use pg_run_trace::pg_ir::{Program, Request, ThreadNo, TrapName};
+use pg_run_trace::pg_num::{Place, Width, from_signed, to_signed};
 use std::alloc::{AllocError, Global};
 
 /// The input's number at an index, as a word, and 0 outside of the input.

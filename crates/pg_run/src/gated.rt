@@ -3,7 +3,7 @@
 ghost use Rattle.std.specs.Prelude.{◌≡◌, ◌<◌, ℕ, [], length, slice_get, slice_set, true, Some, IfOk};
 ghost use Rattle.pg_run.specs.MachineStep.{is_gated};
 
-use pg_ir::{InstrId, Program};
+use pg_run_trace::pg_ir::{InstrId, Program};
 use std::alloc::{AllocError, Global};
 use std::marker::Model;
 
@@ -17,7 +17,7 @@ pub struct Gated {
 
 impl Model for Gated {
     ghost use Rattle.std.specs.Prelude.{◌≡◌, ◌<◌, ℕ, List, length, slice_get, Some};
-    ghost use Rattle.pg_ir.specs.declared.ids.InstrId.{InstrId};
+    ghost use Rattle.pg_run_trace.specs.pg_ir.declared.ids.InstrId.{InstrId};
     ghost use Rattle.pg_run.specs.MachineStep.{is_gated};
 
     ghost Value = { List InstrId };

@@ -10,7 +10,7 @@ use crate::guided_left::{all_left, left_of, set_left};
 use crate::guided_walk::walk;
 use crate::run::Run;
 use crate::state::MachineState;
-use pg_ir::Program;
+use pg_run_trace::pg_ir::Program;
 use pg_run_trace::{Schedule, Trace, Turn};
 use std::alloc::{AllocError, Global};
 

@@ -9,9 +9,9 @@ ghost use Rattle.pg_run.specs.Guided.{cannot_go, due, due_by, end_after, is_turn
 use crate::gated::Gated;
 use crate::guided_end::GuidedEnd;
 use crate::state::{MachineState, is_ended};
-use pg_ir::{Program, ThreadNo, TrapName};
 use pg_run_thread::Action;
 use pg_run_trace::Turn;
+use pg_run_trace::pg_ir::{Program, ThreadNo, TrapName};
 
 /// Whether two turns are equal.
 fn is_turn(a: &Turn, b: &Turn) -> bool

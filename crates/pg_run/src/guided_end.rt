@@ -1,6 +1,6 @@
 //! How a guided run ends.
 
-use pg_ir::{InstrId, ThreadNo, TrapName};
+use pg_run_trace::pg_ir::{InstrId, ThreadNo, TrapName};
 
 /// How a guided run ends.
 #[derive(Clone, Copy, Debug, PartialEq, Eq)]

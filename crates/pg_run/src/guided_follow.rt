@@ -1,7 +1,7 @@
 //! Following a schedule from turn to turn.
 
 ghost use Rattle.std.specs.Prelude.{◌≡◌, List, IfOk, OnOk};
-ghost use Rattle.pg_num.specs.declared.limits.TheConstants.{RECORDING_STEP_LIMIT};
+ghost use Rattle.pg_run_trace.specs.pg_num.declared.limits.TheConstants.{RECORDING_STEP_LIMIT};
 ghost use Rattle.pg_run_trace.specs.declared.step.Step.{Step};
 ghost use Rattle.pg_run.specs.Follow.{followed_as, following_of, reached};
 
@@ -9,8 +9,8 @@ use crate::gated::Gated;
 use crate::guided::{Stopped, guide_along};
 use crate::guided_end::GuidedEnd;
 use crate::run::Run;
-use pg_ir::Program;
-use pg_num::limits::RECORDING_STEP_LIMIT;
+use pg_run_trace::pg_ir::Program;
+use pg_run_trace::pg_num::limits::RECORDING_STEP_LIMIT;
 use pg_run_trace::{Schedule, Trace};
 use std::alloc::{AllocError, Global};
 

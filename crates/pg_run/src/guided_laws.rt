@@ -1,8 +1,8 @@
 //! What holds of guided runs: each law is the clause of a function that does nothing.
 
 ghost use Rattle.std.specs.Prelude.{◌≡◌, ◌↔◌, ℤ, IsTrue, List, take};
-ghost use Rattle.pg_ir.specs.declared.ids.InstrId.{InstrId};
-ghost use Rattle.pg_ir.specs.Program.{NumberedProgram};
+ghost use Rattle.pg_run_trace.specs.pg_ir.declared.ids.InstrId.{InstrId};
+ghost use Rattle.pg_run_trace.specs.pg_ir.Program.{NumberedProgram};
 ghost use Rattle.pg_run_trace.specs.declared.turn.Turn.{Turn};
 ghost use Rattle.pg_run.specs.State.{initial};
 ghost use Rattle.pg_run.specs.Guided.{guided_of, is_turn};

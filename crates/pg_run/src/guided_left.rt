@@ -3,8 +3,8 @@
 ghost use Rattle.std.specs.Prelude.{◌≡◌, slice_index, slice_set, IfOk};
 ghost use Rattle.pg_run.specs.Guided.{all_left};
 
-use pg_ir::ThreadNo;
-use pg_num::limits::{GUIDED_STEP_LIMIT, THREAD_LIMIT};
+use pg_run_trace::pg_ir::ThreadNo;
+use pg_run_trace::pg_num::limits::{GUIDED_STEP_LIMIT, THREAD_LIMIT};
 use std::alloc::{AllocError, Global};
 
 /// How many steps each thread has left before the first step of a guided run.

@@ -1,8 +1,8 @@
 //! What holds of each step of the machine and of each run: each law is the clause of a function that does nothing.
 
 ghost use Rattle.std.specs.Prelude.{◌≡◌, ℕ, ◌<◌, ℤ, List, [], length, false, slice_get};
-ghost use Rattle.pg_ir.specs.declared.ids.InstrId.{InstrId};
-ghost use Rattle.pg_ir.specs.Program.{NumberedProgram};
+ghost use Rattle.pg_run_trace.specs.pg_ir.declared.ids.InstrId.{InstrId};
+ghost use Rattle.pg_run_trace.specs.pg_ir.Program.{NumberedProgram};
 ghost use Rattle.pg_run.specs.State.{State, initial, next_of};
 ghost use Rattle.pg_run.specs.MachineStep.{step, turn_of};
 ghost use Rattle.pg_run.specs.Recordings.{IsRecording};

@@ -1,7 +1,7 @@
 //! One step of the machine.
 
 ghost use Rattle.std.specs.Prelude.{◌≡◌, ℕ, false, length, option_map, true, IfNone, IfOk, IfSome, OnErr, OnOk};
-ghost use Rattle.pg_ir.specs.declared.ids.ThreadNo.{ThreadNo as AThreadNo};
+ghost use Rattle.pg_run_trace.specs.pg_ir.declared.ids.ThreadNo.{ThreadNo as AThreadNo};
 ghost use Rattle.pg_run_objects.specs.Sync.{over};
 ghost use Rattle.pg_run.specs.State.{exit_value_of, initial};
 ghost use Rattle.pg_run_memory.specs.Memory.{read};
@@ -16,9 +16,9 @@ use crate::outcome::Outcome;
 use crate::rotation::{deadlock, first_ready};
 use crate::run::Run;
 use crate::state::MachineState;
-use pg_ir::{InstrId, Program, ThreadNo, TrapName};
-use pg_num::Place;
 use pg_run_thread::Action;
+use pg_run_trace::pg_ir::{InstrId, Program, ThreadNo, TrapName};
+use pg_run_trace::pg_num::Place;
 use pg_run_trace::{Step, Turn};
 use std::alloc::{AllocError, Global};
 use std::marker::Model;

@@ -1,6 +1,6 @@
 //! How a run ends.
 
-use pg_ir::{InstrId, TrapName};
+use pg_run_trace::pg_ir::{InstrId, TrapName};
 
 /// Why a run gives nothing to be used again.
 #[derive(Clone, Copy, Debug, PartialEq, Eq)]

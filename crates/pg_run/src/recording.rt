@@ -1,7 +1,7 @@
 //! Steps that are recorded as they are done.
 
 ghost use Rattle.std.specs.Prelude.{◌≡◌, ◌<◌, ◌≤◌, ◌+◌, ◌∷◌, [], length, false, true, List, Some, IfNone, IfOk, IfSome, OnErr, OnOk};
-ghost use Rattle.pg_ir.specs.declared.ids.InstrId.{InstrId};
+ghost use Rattle.pg_run_trace.specs.pg_ir.declared.ids.InstrId.{InstrId};
 ghost use Rattle.pg_run_objects.specs.Sync.{over};
 ghost use Rattle.pg_run.specs.Machine.{IsMachine};
 ghost use Rattle.pg_run.specs.MachineStep.{MayTake, ready, step};
@@ -12,8 +12,8 @@ ghost use Rattle.pg_run.specs.WithSteps.{told_by, with_steps};
 use crate::run::Run;
 use crate::state::MachineState;
 use crate::tell::{filled, told_as};
-use pg_ir::{InstrId, Program, ThreadNo, TrapName};
 use pg_run_thread::{Action, Advance};
+use pg_run_trace::pg_ir::{InstrId, Program, ThreadNo, TrapName};
 use pg_run_trace::{Step, Trace};
 use std::alloc::AllocError;
 

@@ -1,7 +1,7 @@
 //! Rotation runs: threads take shares of steps in number order.
 
 ghost use Rattle.std.specs.Prelude.{◌≡◌, ◌<◌, ◌≤◌, ◌+◌, [], ℕ, suc, length, not, true, IfOk, IfSome, OnOk};
-ghost use Rattle.pg_num.specs.declared.limits.TheConstants.{RECORDING_STEP_LIMIT, THREAD_LIMIT, QUANTUM_LIMIT};
+ghost use Rattle.pg_run_trace.specs.pg_num.declared.limits.TheConstants.{RECORDING_STEP_LIMIT, THREAD_LIMIT, QUANTUM_LIMIT};
 ghost use Rattle.pg_run_trace.specs.Recording.{empty_with};
 ghost use Rattle.pg_run.specs.State.{State, initial, next_of};
 ghost use Rattle.pg_run.specs.MachineStep.{MayTake, ready, step};
@@ -17,10 +17,10 @@ use crate::recording::{record_own, record_step};
 use crate::run::Run;
 use crate::share::Share;
 use crate::state::{MachineState, is_ended};
-use pg_ir::{Program, ThreadNo, TrapName};
-use pg_num::limits::RECORDING_STEP_LIMIT;
 use pg_run_thread::Action;
 use pg_run_trace::Trace;
+use pg_run_trace::pg_ir::{Program, ThreadNo, TrapName};
+use pg_run_trace::pg_num::limits::RECORDING_STEP_LIMIT;
 use std::alloc::{AllocError, Global};
 
 /// The steps of a rotation run, what it printed, and how it ended.

@@ -1,7 +1,7 @@
 //! What a run is of.
 
 use crate::gated::Gated;
-use pg_ir::Program;
+use pg_run_trace::pg_ir::Program;
 use std::alloc::Global;
 
 /// What a run is of: a program, its input, and the loads and stores that are events; and the memory that it takes.

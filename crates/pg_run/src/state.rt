@@ -3,7 +3,7 @@
 ghost use Rattle.std.specs.Prelude.{◌≡◌, ◌<◌, ◌≤◌, ◌+◌, ◌*◌, ◌^◌, ◌++◌, ◌∷◌, [], length, slice_get, slice_set, slice_index, true, vec_capacity, IfOk};
 ghost use Rattle.std.specs.Prelude.{OnErr, OnOk};
 ghost use Rattle.std.specs.List.{All};
-ghost use Rattle.pg_num.specs.declared.limits.TheConstants.{THREAD_LIMIT};
+ghost use Rattle.pg_run_trace.specs.pg_num.declared.limits.TheConstants.{THREAD_LIMIT};
 ghost use Rattle.pg_run_memory.specs.Memory.{read, written};
 ghost use Rattle.pg_run_objects.specs.Stages.{may_ask};
 ghost use Rattle.pg_run_objects.specs.Sync.{applied, check, named, over, stage_of};
@@ -15,12 +15,12 @@ ghost use Rattle.pg_run.specs.MachineStep.{is_ended, may_act, ready, operands_in
 ghost use Rattle.pg_run.specs.Machine.{HasRoom, IsMachine, MayGoOn};
 ghost use Rattle.pg_run.specs.Went.{advance_in, locals_advanced};
 
-use pg_ir::{InstrId, Program, Request, ThreadNo, TrapName};
-use pg_num::limits::THREAD_LIMIT;
-use pg_num::{Place, Width, to_signed, trunc};
 use pg_run_memory::Memory;
 use pg_run_objects::{Reply, SyncState, SyncTrap};
 use pg_run_thread::{Action, Advance, Fiber};
+use pg_run_trace::pg_ir::{InstrId, Program, Request, ThreadNo, TrapName};
+use pg_run_trace::pg_num::limits::THREAD_LIMIT;
+use pg_run_trace::pg_num::{Place, Width, to_signed, trunc};
 use std::alloc::{AllocError, Global};
 use std::marker::Model;
 
@@ -39,7 +39,7 @@ pub(crate) struct MachineState {
 
 impl Model for MachineState {
     ghost use Rattle.std.specs.Prelude.{◌≡◌, ◌≤◌, length, vec_capacity};
-    ghost use Rattle.pg_num.specs.declared.limits.TheConstants.{THREAD_LIMIT};
+    ghost use Rattle.pg_run_trace.specs.pg_num.declared.limits.TheConstants.{THREAD_LIMIT};
     ghost use Rattle.pg_run_objects.specs.Sync.{over};
     ghost use Rattle.pg_run.specs.State.{State};
 

@@ -10,9 +10,9 @@ ghost use Rattle.pg_run.specs.MachineStep.{access_told, event_told, happening_if
 
 use crate::gated::Gated;
 use crate::state::MachineState;
-use pg_ir::{InstrId, LibraryCall, Op, Program, Request, ThreadNo};
-use pg_num::Place;
 use pg_run_thread::{Action, LocalStep};
+use pg_run_trace::pg_ir::{InstrId, LibraryCall, Op, Program, Request, ThreadNo};
+use pg_run_trace::pg_num::Place;
 use pg_run_trace::{
     Access, Event, Happening, StepKind, Turn, TurnKind, Write, happening_of, kind_of, object_of,
 };

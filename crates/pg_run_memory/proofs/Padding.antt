@@ -3,7 +3,7 @@ use Rattle.std.proofs.Common.{◌≡◌, ℕ, zero, suc, ◌+◌, ◌-◌, ◌<�
 use Rattle.std.proofs.Common.{◌⊎◌, slice_index, slice_set, subst}
 use Rattle.std.proofs.lemmas.Bool.{cases_eq}
 use Rattle.std.proofs.lemmas.List.{get_or_append_left, get_or-append_right, set-append_left, set-append_right, get_or-set_same, get_or-set_other, length-set, length-replicate}
-use Rattle.pg_num.specs.declared.layout.TheConstants.{GLOBALS_END, GRANULE_COUNT}
+use Rattle.pg_ir.specs.pg_num.declared.layout.TheConstants.{GLOBALS_END, GRANULE_COUNT}
 use Rattle.pg_run_memory.specs.Memory.{Words, IsMemory, byte_at}
 use Rattle.pg_run_memory.specs.Parts.{padded, AreParts}
 use Rattle.pg_run_memory.proofs.InitialBytes.{zero_word, zero_bytes}

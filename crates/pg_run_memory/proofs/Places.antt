@@ -4,8 +4,8 @@ use Rattle.std.proofs.Common.{add-zero, zero-add, inl, inr, ◌⊎◌, ◌≢◌
 use Rattle.std.proofs.lemmas.Bool.{cases_lt, cases_eq}
 use Rattle.std.proofs.lemmas.Bool.Decides.{nat_tests}
 use Rattle.std.proofs.lemmas.List.{get_or-set_same, get_or-set_other, length-set}
-use Rattle.pg_num.specs.Places.{ByteRange}
-use Rattle.pg_num.specs.declared.layout.TheConstants.{GRANULE_COUNT}
+use Rattle.pg_ir.specs.pg_num.Places.{ByteRange}
+use Rattle.pg_ir.specs.pg_num.declared.layout.TheConstants.{GRANULE_COUNT}
 use Rattle.pg_run_memory.specs.Bytes.{byte_of, number_of, with_bytes}
 use Rattle.pg_run_memory.specs.Memory.{Words, IsMemory, byte_at, words_from, memory_of, read, written}
 use Rattle.pg_run_memory.specs.Words.{part_of, with_part}

@@ -6,8 +6,8 @@ use Rattle.std.proofs.lemmas.Bool.Decides.{nat_tests}
 use Rattle.std.proofs.lemmas.Nat.{shr_high, mod_low, pow-add, mul-add-lt}
 use Rattle.std.proofs.lemmas.List.{get_or_past}
 use Rattle.std.proofs.Math.Nat.{zero-div}
-use Rattle.pg_num.specs.Places.{ByteRange, meet}
-use Rattle.pg_num.specs.declared.layout.TheConstants.{GRANULE_COUNT, MEMORY_BYTES}
+use Rattle.pg_ir.specs.pg_num.Places.{ByteRange, meet}
+use Rattle.pg_ir.specs.pg_num.declared.layout.TheConstants.{GRANULE_COUNT, MEMORY_BYTES}
 use Rattle.pg_run_memory.specs.Bytes.{byte_of, number_of, with_bytes}
 use Rattle.pg_run_memory.specs.Memory.{Words, IsMemory, byte_at, words_from, memory_of, read, written}
 use Rattle.pg_run_memory.proofs.Parts.{number_cut, byte_shifted}

@@ -1,6 +1,6 @@
 -- Numbers as bytes, the low byte first (little-endian).
 use Rattle.std.specs.Prelude.{ℕ, zero, suc, ◌+◌, ◌-◌, ◌*◌, ◌/◌, ◌%◌, ◌^◌, nat_le, nat_lt, ◌&&◌, if◌then◌else◌}
-use Rattle.pg_num.specs.Places.{ByteRange}
+use Rattle.pg_ir.specs.pg_num.Places.{ByteRange}
 
 -- byte k of a number
 abbrev pub byte_of : ℕ → ℕ → ℕ

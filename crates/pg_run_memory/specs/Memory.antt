@@ -1,8 +1,8 @@
 -- Memory: a finite map from the byte places below MEMORY_BYTES to bytes. It is kept as the list of its granules, each
 -- the number of eight bytes.
 use Rattle.std.specs.Prelude.{◌≡◌, ℕ, zero, suc, ◌*◌, ◌/◌, ◌%◌, ◌^◌, ◌<◌, List, [], ◌∷◌, length, slice_index}
-use Rattle.pg_num.specs.Places.{ByteRange}
-use Rattle.pg_num.specs.declared.layout.TheConstants.{GRANULE_COUNT}
+use Rattle.pg_ir.specs.pg_num.Places.{ByteRange}
+use Rattle.pg_ir.specs.pg_num.declared.layout.TheConstants.{GRANULE_COUNT}
 use Rattle.pg_run_memory.specs.Bytes.{byte_of, number_of, with_bytes}
 
 abbrev pub Words : Type 0

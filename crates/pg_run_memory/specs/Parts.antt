@@ -1,7 +1,7 @@
 -- Memory as it is kept: the granules of the globals and those of the threads, each with zeros behind the
 -- last that was written.
 use Rattle.std.specs.Prelude.{◌≡◌, ℕ, zero, suc, ◌-◌, ◌++◌, [], ◌∷◌, length}
-use Rattle.pg_num.specs.declared.layout.TheConstants.{GLOBALS_END, GRANULE_COUNT}
+use Rattle.pg_ir.specs.pg_num.declared.layout.TheConstants.{GLOBALS_END, GRANULE_COUNT}
 use Rattle.pg_run_memory.specs.Memory.{Words, IsMemory}
 
 -- words with zeros behind them up to a length

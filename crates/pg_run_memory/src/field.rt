@@ -5,7 +5,7 @@ ghost use Rattle.pg_run_memory.specs.Bytes.{byte_of, number_of, with_bytes};
 ghost use Rattle.pg_run_memory.specs.Words.{changed_by, part_of, with_part};
 
 use crate::delta::Delta;
-use pg_num::Place;
+use pg_ir::pg_num::Place;
 
 /// The change by which each granule whose bytes at the place hold `from` gets `to` there and keeps its other bytes.
 /// So a part of a granule can be stored by one addition or subtraction on the whole.

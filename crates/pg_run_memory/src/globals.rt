@@ -1,7 +1,7 @@
 //! The bytes that globals begin with.
 
 ghost use Rattle.std.specs.Prelude.{◌≡◌, ℕ, ◌<◌, ◌≤◌, ◌+◌, ◌*◌, length};
-ghost use Rattle.pg_num.specs.declared.layout.TheConstants.{MEMORY_BYTES};
+ghost use Rattle.pg_ir.specs.pg_num.declared.layout.TheConstants.{MEMORY_BYTES};
 ghost use Rattle.pg_run_memory.specs.Initial.{initial_byte, with_bytes_at};
 ghost use Rattle.pg_run_memory.specs.Memory.{byte_at};
 

@@ -1,8 +1,8 @@
 //! What holds of memory as a map from places to bytes: each law is the clause of a function that does nothing.
 
 ghost use Rattle.std.specs.Prelude.{◌≡◌, ℕ, false, ◌<◌, ◌≤◌, ◌+◌, ◌*◌, ◌/◌, ◌%◌, ◌^◌, slice_index, slice_set};
-ghost use Rattle.pg_num.specs.Places.{ByteRange, IsPlace, meet};
-ghost use Rattle.pg_num.specs.declared.layout.TheConstants.{MEMORY_BYTES};
+ghost use Rattle.pg_ir.specs.pg_num.Places.{ByteRange, IsPlace, meet};
+ghost use Rattle.pg_ir.specs.pg_num.declared.layout.TheConstants.{MEMORY_BYTES};
 ghost use Rattle.pg_run_memory.specs.Bytes.{number_of, with_bytes};
 ghost use Rattle.pg_run_memory.specs.Memory.{Words, IsMemory, byte_at, memory_of, read, written};
 ghost use Rattle.pg_run_memory.specs.Words.{part_of, with_part};

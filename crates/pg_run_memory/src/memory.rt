@@ -1,7 +1,7 @@
 //! The memory of a run.
 
 ghost use Rattle.std.specs.Prelude.{◌≡◌, ℕ, ◌<◌, ◌≤◌, ◌+◌, ◌-◌, ◌*◌, ◌/◌, ◌%◌, ◌^◌, IfOk, slice_index, slice_set};
-ghost use Rattle.pg_num.specs.declared.layout.TheConstants.{GLOBALS_END, GRANULE_COUNT, MEMORY_BYTES};
+ghost use Rattle.pg_ir.specs.pg_num.declared.layout.TheConstants.{GLOBALS_END, GRANULE_COUNT, MEMORY_BYTES};
 ghost use Rattle.pg_run_memory.specs.Bytes.{with_bytes};
 ghost use Rattle.pg_run_memory.specs.Initial.{initial};
 ghost use Rattle.pg_run_memory.specs.Memory.{IsMemory, byte_at, read, written};
@@ -10,8 +10,8 @@ use crate::globals::lay_globals;
 use crate::pages::Pages;
 use crate::words::{part, replaced};
 use pg_ir::Program;
-use pg_num::Place;
-use pg_num::layout::{GLOBALS_END, GRANULE_COUNT};
+use pg_ir::pg_num::Place;
+use pg_ir::pg_num::layout::{GLOBALS_END, GRANULE_COUNT};
 use std::alloc::{AllocError, Global};
 use std::marker::Model;
 

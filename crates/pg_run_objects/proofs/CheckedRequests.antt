@@ -3,7 +3,7 @@ use Rattle.std.proofs.Common.{◌≡◌, ℕ, ◌+◌, ◌<◌, ◌≤◌, ◌==
 use Rattle.std.proofs.Common.{◌∙◌, arith, zero, suc}
 use Rattle.std.specs.Prelude.{slice_get, map}
 use Rattle.std.proofs.lemmas.Bool.Decides.{nat_tests}
-use Rattle.pg_num.specs.declared.limits.TheConstants.{OBJECT_LIMIT}
+use Rattle.pg_ir.specs.pg_num.declared.limits.TheConstants.{OBJECT_LIMIT}
 use Rattle.pg_ir.specs.declared.request.TrapName.{TrapName}
 use Rattle.pg_ir.specs.declared.request.Request.{Request}
 use Rattle.pg_run_objects.specs.declared.object.Object.{Object}

@@ -3,7 +3,7 @@ use Rattle.std.proofs.Common.{◌≡◌, ℕ, ◌+◌, ◌^◌, ◌<◌, Fits, w
 use Rattle.std.proofs.Common.{ap, arith, zero, suc, length-append, length-set}
 use Rattle.std.specs.Prelude.{slice_get, slice_set, map, find, if◌then◌else◌}
 use Rattle.std.proofs.lemmas.List.{length-map}
-use Rattle.pg_num.specs.declared.limits.TheConstants.{THREAD_LIMIT}
+use Rattle.pg_ir.specs.pg_num.declared.limits.TheConstants.{THREAD_LIMIT}
 use Rattle.pg_run_objects.specs.declared.status.Stage.{Stage}
 use Rattle.pg_run_objects.specs.declared.status.Stage.TheVariants.{Made, Running, Waiting, Arrived, Ended}
 use Rattle.pg_run_objects.specs.declared.status.Status.{Status}

@@ -1,6 +1,6 @@
 -- How far threads have come: what they may ask, and how many wait to be signalled.
 use Rattle.std.specs.Prelude.{ℕ, ◌+◌, ◌≤◌, ◌||◌, not, List, [], ◌∷◌, length, Bool, true, false}
-use Rattle.pg_num.specs.declared.limits.TheConstants.{THREAD_LIMIT}
+use Rattle.pg_ir.specs.pg_num.declared.limits.TheConstants.{THREAD_LIMIT}
 use Rattle.pg_ir.specs.declared.request.Request.{Request}
 use Rattle.pg_ir.specs.declared.request.Request.TheVariants.{Start, Wake, Leave}
 use Rattle.pg_run_objects.specs.declared.status.Stage.{Stage}

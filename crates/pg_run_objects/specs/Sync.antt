@@ -4,7 +4,7 @@
 use Rattle.std.specs.Prelude.{ℕ, ◌+◌, ◌%◌, ◌==◌, ◌&&◌, ◌||◌, not, nat_lt, nat_le, List, [], ◌∷◌, ◌++◌, length, filter, find, map, Bool, true, false, Option}
 use Rattle.std.specs.Prelude.{Some, None, is_some, Result, Ok, Err, slice_get, slice_set, if◌then◌else◌}
 use Rattle.std.specs.List.{list_all, list_any}
-use Rattle.pg_num.specs.declared.limits.TheConstants.{THREAD_LIMIT, OBJECT_LIMIT}
+use Rattle.pg_ir.specs.pg_num.declared.limits.TheConstants.{THREAD_LIMIT, OBJECT_LIMIT}
 use Rattle.pg_ir.specs.declared.request.Request.{Request}
 use Rattle.pg_ir.specs.declared.request.Request.TheVariants.{Start, Exit, Create, Join, MutexInit, Lock, Trylock, Unlock, MutexDestroy, CondInit, Wait, Wake, Signal, Broadcast, CondDestroy}
 use Rattle.pg_ir.specs.declared.request.Request.TheVariants.{BarrierInit, Arrive, Leave, BarrierDestroy, Out, Putchar}

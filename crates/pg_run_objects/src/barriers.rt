@@ -1,7 +1,7 @@
 //! Barriers.
 
 ghost use Rattle.std.specs.Prelude.{◌≡◌, ◌+◌, ◌<◌, ◌==◌, length, map, true, false, Some, if◌then◌else◌};
-ghost use Rattle.pg_num.specs.declared.limits.TheConstants.{OBJECT_LIMIT};
+ghost use Rattle.pg_ir.specs.pg_num.declared.limits.TheConstants.{OBJECT_LIMIT};
 ghost use Rattle.pg_run_objects.specs.Objects.{is_missing, object_at, put_object};
 ghost use Rattle.pg_run_objects.specs.Stages.{is_unsignalled};
 ghost use Rattle.pg_run_objects.specs.declared.reply.Reply.{Reply};

@@ -10,8 +10,8 @@ use crate::kinds::{
 use crate::object::Object;
 use crate::state::SyncState;
 use crate::threads::{ended, released, signalled};
+use pg_ir::pg_num::limits::{OBJECT_LIMIT, THREAD_LIMIT};
 use pg_ir::{Request, ThreadNo, TrapName};
-use pg_num::limits::{OBJECT_LIMIT, THREAD_LIMIT};
 
 fn trap_unless(holds: bool, name: TrapName) -> Option<TrapName>
     ensures { result ≡ unless holds name }

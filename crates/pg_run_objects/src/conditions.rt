@@ -1,7 +1,7 @@
 //! Condition variables.
 
 ghost use Rattle.std.specs.Prelude.{◌≡◌, ◌<◌, None, length, true, false};
-ghost use Rattle.pg_num.specs.declared.limits.TheConstants.{OBJECT_LIMIT};
+ghost use Rattle.pg_ir.specs.pg_num.declared.limits.TheConstants.{OBJECT_LIMIT};
 ghost use Rattle.pg_run_objects.specs.Objects.{is_missing, object_at, put_object};
 ghost use Rattle.pg_run_objects.specs.Stages.{is_unsignalled};
 ghost use Rattle.pg_run_objects.specs.Sync.{answer, broadcast, missing_of, room_for, signal, stage_of, wait, wake};

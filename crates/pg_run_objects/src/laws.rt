@@ -1,8 +1,8 @@
 //! What holds of the synchronisation objects: each law is the clause of a function that does nothing.
 
 ghost use Rattle.std.specs.Prelude.{◌≡◌, ℕ, ◌<◌, ◌≤◌, ◌==◌, List, None, Some, Ok, Err, IfErr, false, true, length, negsuc};
-ghost use Rattle.pg_num.specs.Numbers.{residue};
-ghost use Rattle.pg_num.specs.declared.width.Width.TheVariants.{W32};
+ghost use Rattle.pg_ir.specs.pg_num.Numbers.{residue};
+ghost use Rattle.pg_ir.specs.pg_num.declared.width.Width.TheVariants.{W32};
 ghost use Rattle.pg_ir.specs.declared.request.Request.{Request};
 ghost use Rattle.pg_ir.specs.declared.request.TrapName.{TrapName};
 ghost use Rattle.pg_ir.specs.declared.request.Request.TheVariants.{BarrierInit, Leave, Trylock};

@@ -1,7 +1,7 @@
 //! Creates, starts, exits and joins.
 
 ghost use Rattle.std.specs.Prelude.{◌≡◌, ◌<◌, ◌==◌, ◌&&◌, ◌||◌, ◌++◌, ◌∷◌, [], Some, length, false, slice_get, slice_set};
-ghost use Rattle.pg_num.specs.declared.limits.TheConstants.{THREAD_LIMIT};
+ghost use Rattle.pg_ir.specs.pg_num.declared.limits.TheConstants.{THREAD_LIMIT};
 ghost use Rattle.pg_run_objects.specs.Stages.{is_unsignalled};
 ghost use Rattle.pg_run_objects.specs.Sync.{answer, at_stage, joined_in, made, stage_of};
 

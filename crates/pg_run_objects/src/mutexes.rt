@@ -1,7 +1,7 @@
 //! Mutexes.
 
 ghost use Rattle.std.specs.Prelude.{◌≡◌, ◌<◌, length, true, if◌then◌else◌};
-ghost use Rattle.pg_num.specs.declared.limits.TheConstants.{OBJECT_LIMIT};
+ghost use Rattle.pg_ir.specs.pg_num.declared.limits.TheConstants.{OBJECT_LIMIT};
 ghost use Rattle.pg_run_objects.specs.Objects.{drop_object, is_free, is_missing, object_at};
 ghost use Rattle.pg_run_objects.specs.declared.reply.Reply.{Reply};
 ghost use Rattle.pg_run_objects.specs.Sync.{Sync, answer, give_back, hold};

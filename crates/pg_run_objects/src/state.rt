@@ -1,7 +1,7 @@
 //! The state of synchronisation.
 
 ghost use Rattle.std.specs.Prelude.{◌≡◌, ◌<◌, ◌≤◌, ◌++◌, ◌∷◌, [], true, false, find, is_some, length, map, slice_get, slice_set, IfOk};
-ghost use Rattle.pg_num.specs.declared.limits.TheConstants.{OBJECT_LIMIT, THREAD_LIMIT};
+ghost use Rattle.pg_ir.specs.pg_num.declared.limits.TheConstants.{OBJECT_LIMIT, THREAD_LIMIT};
 ghost use Rattle.pg_run_objects.specs.Objects.{IsAscendingFrom, drop_object, is_missing, object_at, put_object};
 ghost use Rattle.pg_run_objects.specs.Stages.{is_unsignalled};
 ghost use Rattle.pg_run_objects.specs.Sync.{Sync, at_stage, broadcast, fresh, has_waiters, joined_in, made, may_join, over, release, signal, stage_of, waits_on};
@@ -14,7 +14,7 @@ use crate::threads::{
 };
 use crate::waiters::{any_waits, push_waiter, take_first};
 use pg_ir::ThreadNo;
-use pg_num::limits::THREAD_LIMIT;
+use pg_ir::pg_num::limits::THREAD_LIMIT;
 use std::alloc::{AllocError, Global};
 use std::marker::Model;
 

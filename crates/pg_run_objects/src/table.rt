@@ -1,12 +1,12 @@
 //! Objects by place.
 
 ghost use Rattle.std.specs.Prelude.{◌≡◌, ◌<◌, ◌≤◌, [], true, length, take, IfOk, IfSome, slice_get};
-ghost use Rattle.pg_num.specs.declared.limits.TheConstants.{OBJECT_LIMIT};
+ghost use Rattle.pg_ir.specs.pg_num.declared.limits.TheConstants.{OBJECT_LIMIT};
 ghost use Rattle.pg_run_objects.specs.Objects.{IsAscendingFrom, drop_object, is_missing, object_at, put_object};
 ghost use Rattle.pg_run_objects.specs.Places.{AllBelow, object_here, place_is};
 
 use crate::object::{Entry, Object};
-use pg_num::limits::OBJECT_LIMIT;
+use pg_ir::pg_num::limits::OBJECT_LIMIT;
 use std::alloc::{AllocError, Global};
 use std::marker::Model;
 
@@ -18,7 +18,7 @@ pub(crate) struct ObjectTable {
 
 impl Model for ObjectTable {
     ghost use Rattle.std.specs.Prelude.{List, ◌≤◌, length, vec_capacity};
-    ghost use Rattle.pg_num.specs.declared.limits.TheConstants.{OBJECT_LIMIT};
+    ghost use Rattle.pg_ir.specs.pg_num.declared.limits.TheConstants.{OBJECT_LIMIT};
     ghost use Rattle.pg_run_objects.specs.declared.object.Entry.{Entry};
     ghost use Rattle.pg_run_objects.specs.Objects.{IsAscendingFrom};
 

@@ -1,6 +1,6 @@
 -- A pointer moved along indices by the numbers of an operation's operands.
 use Rattle.std.proofs.Common.{◌≡◌, ℕ, ◌+◌, List, [], ◌∷◌, Option, Some, None, suc, map, refl, ap, ◌∙◌, sym, arith, add-one}
-use Rattle.pg_num.specs.Pointers.{moved_by}
+use Rattle.pg_ir.specs.pg_num.Pointers.{moved_by}
 use Rattle.pg_ir.specs.declared.value.Index.{Index}
 use Rattle.pg_ir.specs.declared.value.Value.{Value}
 use Rattle.pg_ir.specs.Program.{NumberedProgram}

@@ -2,9 +2,9 @@
 use Rattle.std.proofs.Common.{◌≡◌, ℕ, ◌+◌, ◌-◌, ◌≤◌, List, [], ◌∷◌, length, map, Bool, true, false, Option, Some, IsTrue, refl, sym, ap, ◌∙◌, arith}
 use Rattle.std.specs.Prelude.{slice_get, ◌==◌, ◌&&◌, if◌then◌else◌}
 use Rattle.std.specs.List.{AllByRecursion}
-use Rattle.pg_num.specs.declared.limits.TheConstants.{FUNCTION_REGISTER_LIMIT}
+use Rattle.pg_ir.specs.pg_num.declared.limits.TheConstants.{FUNCTION_REGISTER_LIMIT}
 use Rattle.pg_ir.specs.declared.ids.BlockNo.{BlockNo}
-use Rattle.pg_num.specs.declared.width.Width.{Width}
+use Rattle.pg_ir.specs.pg_num.declared.width.Width.{Width}
 use Rattle.pg_ir.specs.declared.value.Value.{Value}
 use Rattle.pg_ir.specs.declared.edge.Case.{Case}
 use Rattle.pg_ir.specs.declared.edge.Incoming.{Incoming}

@@ -3,7 +3,7 @@ use Rattle.std.proofs.Common.{◌≡◌, ℕ, zero, suc, ◌+◌, ◌-◌, ◌<�
 use Rattle.std.proofs.Common.{IfSome, arith, refl, sym, subst}
 use Rattle.std.specs.Prelude.{slice_get, IsSomeAnd, ◌==◌, if◌then◌else◌}
 use Rattle.std.specs.List.{AllByRecursion}
-use Rattle.pg_num.specs.Numbers.{modulus}
+use Rattle.pg_ir.specs.pg_num.Numbers.{modulus}
 use Rattle.pg_ir.specs.declared.edge.Incoming.{Incoming}
 use Rattle.pg_ir.specs.declared.function.Block.{Block}
 use Rattle.pg_ir.specs.declared.function.Function.{Function}

@@ -1,10 +1,10 @@
 -- What an operation computes ties its step: it is done where it computes a number, which its register gets.
 use Rattle.std.proofs.Common.{◌≡◌, ℕ, List, [], ◌∷◌, length, map, Bool, true, false, Option, Some, None, refl, sym, ap, ◌∙◌}
 use Rattle.std.specs.Prelude.{if◌then◌else◌, ◌&&◌, Result, Ok, Err}
-use Rattle.pg_num.specs.declared.operations.DivideFault.{DivideFault}
-use Rattle.pg_num.specs.declared.operations.DivideFault.TheVariants as divide
-use Rattle.pg_num.specs.Numbers.{divided}
-use Rattle.pg_num.specs.Pointers.{moved_by}
+use Rattle.pg_ir.specs.pg_num.declared.operations.DivideFault.{DivideFault}
+use Rattle.pg_ir.specs.pg_num.declared.operations.DivideFault.TheVariants as divide
+use Rattle.pg_ir.specs.pg_num.Numbers.{divided}
+use Rattle.pg_ir.specs.pg_num.Pointers.{moved_by}
 use Rattle.pg_ir.specs.declared.request.TrapName.TheVariants as traps
 use Rattle.pg_ir.specs.declared.value.Index.{Index}
 use Rattle.pg_ir.specs.declared.instr.Op.{Op}

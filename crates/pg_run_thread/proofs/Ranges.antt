@@ -6,19 +6,19 @@ use Rattle.std.proofs.Math.Nat.{div-le_self}
 use Rattle.std.proofs.lemmas.Bool.Decides.{nat_tests}
 use Rattle.std.specs.Int.Bits.{and_lt}
 use Rattle.std.proofs.lemmas.Nat.{or_lt, xor_lt}
-use Rattle.pg_num.specs.Numbers.{modulus, width_bits, residue, half, divided, quotient_of, overflows, shifted, shifted_within, shifted_out, bits_of}
-use Rattle.pg_num.specs.Pointers.{moved_by, offset_of, word_of}
-use Rattle.pg_num.specs.declared.layout.TheConstants.{THREAD_GRANULES}
-use Rattle.pg_num.specs.declared.limits.TheConstants.{THREAD_LIMIT}
-use Rattle.pg_num.specs.declared.operations.Division.{Division}
-use Rattle.pg_num.specs.declared.operations.Division.TheVariants.{Udiv, Sdiv, Urem, Srem}
-use Rattle.pg_num.specs.declared.operations.DivideFault.TheVariants.{Zero, Overflow}
-use Rattle.pg_num.specs.declared.operations.Shift.{Shift}
-use Rattle.pg_num.specs.declared.operations.Shift.TheVariants.{Shl, Lshr, Ashr}
-use Rattle.pg_num.specs.declared.operations.Bits.{Bits}
-use Rattle.pg_num.specs.declared.operations.Bits.TheVariants.{And, Or, Xor}
-use Rattle.pg_num.specs.declared.width.Width.{Width}
-use Rattle.pg_num.specs.declared.width.Width.TheVariants.{W1}
+use Rattle.pg_ir.specs.pg_num.Numbers.{modulus, width_bits, residue, half, divided, quotient_of, overflows, shifted, shifted_within, shifted_out, bits_of}
+use Rattle.pg_ir.specs.pg_num.Pointers.{moved_by, offset_of, word_of}
+use Rattle.pg_ir.specs.pg_num.declared.layout.TheConstants.{THREAD_GRANULES}
+use Rattle.pg_ir.specs.pg_num.declared.limits.TheConstants.{THREAD_LIMIT}
+use Rattle.pg_ir.specs.pg_num.declared.operations.Division.{Division}
+use Rattle.pg_ir.specs.pg_num.declared.operations.Division.TheVariants.{Udiv, Sdiv, Urem, Srem}
+use Rattle.pg_ir.specs.pg_num.declared.operations.DivideFault.TheVariants.{Zero, Overflow}
+use Rattle.pg_ir.specs.pg_num.declared.operations.Shift.{Shift}
+use Rattle.pg_ir.specs.pg_num.declared.operations.Shift.TheVariants.{Shl, Lshr, Ashr}
+use Rattle.pg_ir.specs.pg_num.declared.operations.Bits.{Bits}
+use Rattle.pg_ir.specs.pg_num.declared.operations.Bits.TheVariants.{And, Or, Xor}
+use Rattle.pg_ir.specs.pg_num.declared.width.Width.{Width}
+use Rattle.pg_ir.specs.pg_num.declared.width.Width.TheVariants.{W1}
 use Rattle.pg_ir.specs.declared.library_call.LibraryCall.{LibraryCall}
 use Rattle.pg_ir.specs.declared.library_call.LibraryCall.TheVariants as known
 use Rattle.pg_ir.specs.declared.value.Index.{Index}

@@ -4,7 +4,7 @@ use Rattle.std.proofs.Common.{◌∙◌, ap, subst}
 use Rattle.std.specs.Prelude.{slice_get, nat_le, if◌then◌else◌}
 use Rattle.std.proofs.lemmas.Bool.Decides.{nat_tests}
 use Rattle.std.proofs.lemmas.List.{length-take}
-use Rattle.pg_num.specs.declared.limits.TheConstants.{CALL_DEPTH_LIMIT, THREAD_REGISTER_LIMIT, FUNCTION_REGISTER_LIMIT}
+use Rattle.pg_ir.specs.pg_num.declared.limits.TheConstants.{CALL_DEPTH_LIMIT, THREAD_REGISTER_LIMIT, FUNCTION_REGISTER_LIMIT}
 use Rattle.pg_ir.specs.declared.function.Function.{Function}
 use Rattle.pg_ir.specs.declared.request.TrapName.TheVariants as traps
 use Rattle.pg_ir.specs.declared.value.Scalar.{Scalar}

@@ -3,9 +3,9 @@ use Rattle.std.proofs.Common.{◌≡◌, ℕ, ◌+◌, ◌<◌, ◌≤◌, ◌^�
 use Rattle.std.proofs.Common.{subst, inl, inr}
 use Rattle.std.specs.Prelude.{slice_get, slice_set, ◌==◌, if◌then◌else◌}
 use Rattle.std.specs.List.{AllByRecursion}
-use Rattle.pg_num.specs.Numbers.{modulus}
-use Rattle.pg_num.specs.declared.layout.TheConstants.{THREAD_GRANULES}
-use Rattle.pg_num.specs.declared.limits.TheConstants.{THREAD_LIMIT}
+use Rattle.pg_ir.specs.pg_num.Numbers.{modulus}
+use Rattle.pg_ir.specs.pg_num.declared.layout.TheConstants.{THREAD_GRANULES}
+use Rattle.pg_ir.specs.pg_num.declared.limits.TheConstants.{THREAD_LIMIT}
 use Rattle.pg_ir.specs.declared.edge.Case.{Case}
 use Rattle.pg_ir.specs.declared.function.Function.{Function}
 use Rattle.pg_ir.specs.declared.library_call.LibraryCall.{LibraryCall}

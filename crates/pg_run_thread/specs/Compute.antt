@@ -1,9 +1,9 @@
 -- The result of an instruction that neither reads memory nor asks anything outside of its operands
 -- (LLVM Language Reference). The same function gives the values along a slice.
 use Rattle.std.specs.Prelude.{ℕ, ◌+◌, ◌==◌, ℤ, pos, ◌*ℤ◌, List, [], ◌∷◌, Bool, true, false, Option, Some, None, Result, Ok, Err, if◌then◌else◌}
-use Rattle.pg_num.specs.Numbers.{signed, sum_of, difference_of, product_of, divided, shifted, bits_of, compared, truncated, sign_extended}
-use Rattle.pg_num.specs.Pointers.{moved_by}
-use Rattle.pg_num.specs.declared.operations.DivideFault.{DivideFault}
+use Rattle.pg_ir.specs.pg_num.Numbers.{signed, sum_of, difference_of, product_of, divided, shifted, bits_of, compared, truncated, sign_extended}
+use Rattle.pg_ir.specs.pg_num.Pointers.{moved_by}
+use Rattle.pg_ir.specs.pg_num.declared.operations.DivideFault.{DivideFault}
 use Rattle.pg_ir.specs.declared.value.Index.{Index}
 use Rattle.pg_ir.specs.declared.value.Scale.{Scale}
 use Rattle.pg_ir.specs.declared.value.Scale.TheVariants.{Times, Field}

@@ -1,6 +1,6 @@
 -- The local state of a thread.
 use Rattle.std.specs.Prelude.{ℕ, ◌+◌, ◌*◌, List, [], ◌∷◌, length, Bool, false, Option, None, replicate}
-use Rattle.pg_num.specs.declared.layout.TheConstants.{GLOBALS_END, THREAD_GRANULES}
+use Rattle.pg_ir.specs.pg_num.declared.layout.TheConstants.{GLOBALS_END, THREAD_GRANULES}
 use Rattle.pg_run_thread.specs.declared.thread_memory.ThreadMemory.{ThreadMemory}
 use Rattle.pg_ir.specs.Program.{NumberedProgram, types_of, entry_of}
 

@@ -3,10 +3,10 @@
 use Rattle.std.specs.Prelude.{◌≡◌, ℕ, ◌+◌, ◌<◌, ◌&&◌, true, ◌≤◌, ◌^◌, List, [], ◌∷◌, length, Bool, IsTrue, Option, Some, None, IfSome, slice_get}
 use Rattle.std.specs.Prelude.{if◌then◌else◌}
 use Rattle.std.specs.List.{AllByRecursion}
-use Rattle.pg_num.specs.Numbers.{modulus}
-use Rattle.pg_num.specs.declared.layout.TheConstants.{THREAD_GRANULES}
-use Rattle.pg_num.specs.declared.limits.TheConstants.{CALL_DEPTH_LIMIT, THREAD_LIMIT, THREAD_REGISTER_LIMIT, FUNCTION_REGISTER_LIMIT, INSTRUCTION_LIMIT}
-use Rattle.pg_num.specs.declared.width.Width.{Width}
+use Rattle.pg_ir.specs.pg_num.Numbers.{modulus}
+use Rattle.pg_ir.specs.pg_num.declared.layout.TheConstants.{THREAD_GRANULES}
+use Rattle.pg_ir.specs.pg_num.declared.limits.TheConstants.{CALL_DEPTH_LIMIT, THREAD_LIMIT, THREAD_REGISTER_LIMIT, FUNCTION_REGISTER_LIMIT, INSTRUCTION_LIMIT}
+use Rattle.pg_ir.specs.pg_num.declared.width.Width.{Width}
 use Rattle.pg_ir.specs.declared.library_call.LibraryCall.{LibraryCall}
 use Rattle.pg_ir.specs.declared.library_call.LibraryCall.TheVariants as known
 use Rattle.pg_ir.specs.declared.request.Request.{Request}
@@ -21,7 +21,7 @@ use Rattle.pg_ir.specs.Operands.{CanReadAll, CanGoOn}
 use Rattle.pg_ir.specs.WellFormed.{granules_for}
 use Rattle.pg_ir.specs.Edges.{is_terminator, successors, targets_of, case_of, phis_of}
 use Rattle.pg_ir.specs.Tables.{block_cases, cases_of}
-use Rattle.pg_num.specs.Pointers.{moved_by}
+use Rattle.pg_ir.specs.pg_num.Pointers.{moved_by}
 use Rattle.pg_run_thread.specs.LocalState.{Frame, LocalState, own_memory, top_height}
 use Rattle.pg_run_thread.specs.Operands.{operand, given, number_at}
 use Rattle.pg_run_thread.specs.Compute.{index_bytes, chosen, with_value}

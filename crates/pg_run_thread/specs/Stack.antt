@@ -1,6 +1,6 @@
 -- The frames of a thread in one list of registers.
 use Rattle.std.specs.Prelude.{◌≡◌, ℕ, ◌+◌, ◌<◌, ◌≤◌, List, [], ◌∷◌, length, take, drop, Bool, true, false, Option}
-use Rattle.pg_num.specs.declared.limits.TheConstants.{CALL_DEPTH_LIMIT, FUNCTION_REGISTER_LIMIT, THREAD_REGISTER_LIMIT}
+use Rattle.pg_ir.specs.pg_num.declared.limits.TheConstants.{CALL_DEPTH_LIMIT, FUNCTION_REGISTER_LIMIT, THREAD_REGISTER_LIMIT}
 use Rattle.pg_run_thread.specs.declared.head.Head.{Head}
 use Rattle.pg_run_thread.specs.LocalState.{Frame}
 

@@ -1,8 +1,8 @@
 -- The local states of a program's threads.
 use Rattle.std.specs.Prelude.{◌≡◌, ℕ, ◌+◌, ◌<◌, ◌≤◌, List, [], ◌∷◌, false, Option, Some, None, slice_get}
-use Rattle.pg_num.specs.Numbers.{modulus}
-use Rattle.pg_num.specs.declared.layout.TheConstants.{THREAD_GRANULES}
-use Rattle.pg_num.specs.declared.limits.TheConstants.{THREAD_LIMIT}
+use Rattle.pg_ir.specs.pg_num.Numbers.{modulus}
+use Rattle.pg_ir.specs.pg_num.declared.layout.TheConstants.{THREAD_GRANULES}
+use Rattle.pg_ir.specs.pg_num.declared.limits.TheConstants.{THREAD_LIMIT}
 use Rattle.pg_ir.specs.declared.value.Scalar.{Scalar}
 use Rattle.pg_ir.specs.declared.instr.Op.{Op}
 use Rattle.pg_ir.specs.declared.instr.Op.TheVariants as op

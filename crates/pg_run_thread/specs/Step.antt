@@ -2,17 +2,17 @@
 -- (LLVM Language Reference, "Instruction Reference"; POSIX.1-2017).
 use Rattle.std.specs.Prelude.{ℕ, ◌+◌, ◌-◌, ◌%◌, ◌==◌, List, [], ◌∷◌, ◌++◌, length, map, replicate, Bool, true, false, not, ◌&&◌, nat_le, Option, Some, None}
 use Rattle.std.specs.Prelude.{Result, Ok, Err, slice_get, slice_set, if◌then◌else◌}
-use Rattle.pg_num.specs.Numbers.{signed, modulus, divided}
-use Rattle.pg_num.specs.Places.{ByteRange}
-use Rattle.pg_num.specs.Pointers as pointers
-use Rattle.pg_num.specs.declared.layout.TheConstants.{THREAD_GRANULES}
-use Rattle.pg_num.specs.declared.limits.TheConstants.{CALL_DEPTH_LIMIT, THREAD_REGISTER_LIMIT}
-use Rattle.pg_num.specs.declared.operations.DivideFault.{DivideFault}
-use Rattle.pg_num.specs.declared.operations.DivideFault.TheVariants as divide
-use Rattle.pg_num.specs.declared.places.PlaceFault.{PlaceFault}
-use Rattle.pg_num.specs.declared.places.PlaceFault.TheVariants as fault
-pub use Rattle.pg_num.specs.Numbers.{bytes_of}
-use Rattle.pg_num.specs.declared.width.Width.TheVariants.{W64}
+use Rattle.pg_ir.specs.pg_num.Numbers.{signed, modulus, divided}
+use Rattle.pg_ir.specs.pg_num.Places.{ByteRange}
+use Rattle.pg_ir.specs.pg_num.Pointers as pointers
+use Rattle.pg_ir.specs.pg_num.declared.layout.TheConstants.{THREAD_GRANULES}
+use Rattle.pg_ir.specs.pg_num.declared.limits.TheConstants.{CALL_DEPTH_LIMIT, THREAD_REGISTER_LIMIT}
+use Rattle.pg_ir.specs.pg_num.declared.operations.DivideFault.{DivideFault}
+use Rattle.pg_ir.specs.pg_num.declared.operations.DivideFault.TheVariants as divide
+use Rattle.pg_ir.specs.pg_num.declared.places.PlaceFault.{PlaceFault}
+use Rattle.pg_ir.specs.pg_num.declared.places.PlaceFault.TheVariants as fault
+pub use Rattle.pg_ir.specs.pg_num.Numbers.{bytes_of}
+use Rattle.pg_ir.specs.pg_num.declared.width.Width.TheVariants.{W64}
 use Rattle.pg_ir.specs.declared.value.Value.{Value}
 use Rattle.pg_ir.specs.declared.value.Scalar.{Scalar}
 use Rattle.pg_ir.specs.declared.library_call.LibraryCall.{LibraryCall}

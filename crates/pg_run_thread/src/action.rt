@@ -1,7 +1,7 @@
 //! What a thread's next step is.
 
+use pg_ir::pg_num::Place;
 use pg_ir::{Request, TrapName};
-use pg_num::Place;
 
 /// What a thread's next step is.
 #[derive(Clone, Copy, Debug, PartialEq, Eq)]

@@ -4,18 +4,18 @@ ghost use Rattle.std.specs.Prelude.{◌≡◌, ◌<◌, length};
 ghost use Rattle.std.specs.List.{AllByRecursion};
 ghost use Rattle.pg_ir.specs.declared.value.Index.{Index};
 ghost use Rattle.pg_ir.specs.Operands.{CanRead, CanReadAll};
-ghost use Rattle.pg_num.specs.Numbers.{divided, modulus};
-ghost use Rattle.pg_num.specs.Pointers.{moved_by};
+ghost use Rattle.pg_ir.specs.pg_num.Numbers.{divided, modulus};
+ghost use Rattle.pg_ir.specs.pg_num.Pointers.{moved_by};
 ghost use Rattle.pg_run_thread.specs.Operands.{operand, given, number_at, operands_of};
 ghost use Rattle.pg_run_thread.specs.Compute.{computed, chosen, number_of_bool, quotient_or_zero, index_bytes};
 ghost use Rattle.pg_run_thread.specs.Needs.{HasKind, HasWidth, OperandsFit, moved_each};
 
 use crate::operands::number_of;
-use pg_ir::{Index, Op, Program, Scale, Value};
-use pg_num::{
+use pg_ir::pg_num::{
     Division, Width, add, bits, compare, divide, move_by, move_by_index, mul, sext, shift, sub,
     trunc,
 };
+use pg_ir::{Index, Op, Program, Scale, Value};
 
 /// The numbers of two operands.
 fn pair(p: &Program, registers: &[Option<u64>], left: Value, right: Value) -> (u64, u64)

@@ -2,8 +2,8 @@
 
 ghost use Rattle.std.specs.Prelude.{◌≡◌, ◌<◌, ◌≤◌, ◌^◌, length, true, false, if◌then◌else◌};
 ghost use Rattle.std.specs.List.{AllByRecursion};
-ghost use Rattle.pg_num.specs.Numbers.{divided, modulus};
-ghost use Rattle.pg_num.specs.declared.limits.TheConstants.{THREAD_REGISTER_LIMIT};
+ghost use Rattle.pg_ir.specs.pg_num.Numbers.{divided, modulus};
+ghost use Rattle.pg_ir.specs.pg_num.declared.limits.TheConstants.{THREAD_REGISTER_LIMIT};
 ghost use Rattle.pg_ir.specs.declared.request.TrapName.TheVariants as traps;
 ghost use Rattle.pg_ir.specs.Operands.{CanRead, CanReadAll, CanReadReturned, CanGoOn};
 ghost use Rattle.pg_run_thread.specs.declared.action.Action.TheVariants as actions;
@@ -18,9 +18,9 @@ use crate::library::{fault_action, library_action};
 use crate::operands::{are_set, has_value, have_index_values, value_of};
 use crate::present::Present;
 use crate::thread_memory::{ThreadMemory, granules_for, has_room};
+use pg_ir::pg_num::limits::{CALL_DEPTH_LIMIT, THREAD_REGISTER_LIMIT};
+use pg_ir::pg_num::{DivideFault, Division, Width, divide, place};
 use pg_ir::{Instr, Op, Program, Request, TrapName, Value};
-use pg_num::limits::{CALL_DEPTH_LIMIT, THREAD_REGISTER_LIMIT};
-use pg_num::{DivideFault, Division, Width, divide, place};
 
 /// A step by itself where the operands have values, else the trap.
 fn local_if(are_set: bool) -> Action

@@ -3,7 +3,7 @@
 ghost use Rattle.std.specs.Prelude.{◌≡◌, ◌<◌, ◌≤◌, ◌∷◌, [], length, map, true, false, Some, slice_get, IfSome, vec_capacity};
 ghost use Rattle.std.specs.List.{AllByRecursion};
 ghost use Rattle.pg_ir.specs.Edges.{phis_of, successors};
-ghost use Rattle.pg_num.specs.declared.limits.TheConstants.{FUNCTION_REGISTER_LIMIT};
+ghost use Rattle.pg_ir.specs.pg_num.declared.limits.TheConstants.{FUNCTION_REGISTER_LIMIT};
 ghost use Rattle.pg_ir.specs.Operands.{CanEnter, CanReadReturned, CanTakePhi};
 ghost use Rattle.pg_run_thread.specs.Operands.{optional_operand};
 ghost use Rattle.pg_run_thread.specs.EdgeStep.{have_values, over_edge, set_register, set_each};

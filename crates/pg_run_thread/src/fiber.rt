@@ -1,8 +1,8 @@
 //! A thread by itself: its calls and their registers.
 
 ghost use Rattle.std.specs.Prelude.{◌≡◌, ◌<◌, ◌≤◌, ◌+◌, ◌∷◌, ◌==◌, [], length, map, slice_get, IfOk, IfSome, Some, true, false};
-ghost use Rattle.pg_num.specs.declared.layout.TheConstants.{THREAD_GRANULES};
-ghost use Rattle.pg_num.specs.declared.limits.TheConstants.{CALL_DEPTH_LIMIT, FUNCTION_REGISTER_LIMIT, INSTRUCTION_LIMIT, THREAD_LIMIT, THREAD_REGISTER_LIMIT};
+ghost use Rattle.pg_ir.specs.pg_num.declared.layout.TheConstants.{THREAD_GRANULES};
+ghost use Rattle.pg_ir.specs.pg_num.declared.limits.TheConstants.{CALL_DEPTH_LIMIT, FUNCTION_REGISTER_LIMIT, INSTRUCTION_LIMIT, THREAD_LIMIT, THREAD_REGISTER_LIMIT};
 ghost use Rattle.pg_ir.specs.Edges.{phis_of, successors};
 ghost use Rattle.pg_ir.specs.Program.{types_of, entry_of};
 ghost use Rattle.std.specs.List.{AllByRecursion};
@@ -21,8 +21,8 @@ use crate::head::Head;
 use crate::present::Present;
 use crate::room::{push_call, push_head, reserved};
 use crate::thread_memory::ThreadMemory;
+use pg_ir::pg_num::limits::{CALL_DEPTH_LIMIT, FUNCTION_REGISTER_LIMIT, THREAD_REGISTER_LIMIT};
 use pg_ir::{BlockNo, Edge, InstrId, Program, ThreadNo, Value};
-use pg_num::limits::{CALL_DEPTH_LIMIT, FUNCTION_REGISTER_LIMIT, THREAD_REGISTER_LIMIT};
 use std::alloc::{AllocError, Global};
 use std::marker::Model;
 

@@ -3,10 +3,10 @@
 ghost use Rattle.std.specs.Prelude.{◌≡◌, ℕ, ◌<◌, ◌^◌, length, Err};
 ghost use Rattle.pg_run_thread.specs.Operands.{number_at};
 ghost use Rattle.std.specs.List.{AllByRecursion};
-ghost use Rattle.pg_num.specs.Places.{ByteRange};
-ghost use Rattle.pg_num.specs.Numbers.{signed};
-ghost use Rattle.pg_num.specs.declared.width.Width.TheVariants.{W64};
-ghost use Rattle.pg_num.specs.declared.limits.TheConstants.{THREAD_LIMIT};
+ghost use Rattle.pg_ir.specs.pg_num.Places.{ByteRange};
+ghost use Rattle.pg_ir.specs.pg_num.Numbers.{signed};
+ghost use Rattle.pg_ir.specs.pg_num.declared.width.Width.TheVariants.{W64};
+ghost use Rattle.pg_ir.specs.pg_num.declared.limits.TheConstants.{THREAD_LIMIT};
 ghost use Rattle.pg_ir.specs.Operands.{CanRead};
 ghost use Rattle.pg_run_thread.specs.declared.action.Action.{Action};
 ghost use Rattle.pg_run_thread.specs.Step.{placed, on_place, library_action, library_number, object_action, init_action, barrier_init_action, create_action, join_action, join_at, wait_action};
@@ -17,8 +17,8 @@ use crate::action::Action;
 use crate::operands::argument_of;
 use crate::present::Present;
 use crate::thread_memory::{ThreadMemory, allocated};
+use pg_ir::pg_num::{PlaceFault, Width, place, trunc};
 use pg_ir::{LibraryCall, Program, Request, TrapName, Value};
-use pg_num::{PlaceFault, Width, place, trunc};
 
 /// The trap of an access that has no place.
 pub(crate) fn fault_action(fault: PlaceFault) -> Action

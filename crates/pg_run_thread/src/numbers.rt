@@ -11,8 +11,8 @@ ghost use Rattle.pg_run_thread.specs.Told.{or_zero};
 
 use crate::compute::computed_of;
 use crate::operands::number_of;
+use pg_ir::pg_num::trunc;
 use pg_ir::{Op, Program, Value};
-use pg_num::trunc;
 
 /// The number that an operation gives its register, by the numbers of its operands and the answer.
 pub(crate) fn plain_number(p: &Program, registers: &[Option<u64>], op: &Op, reply: u64) -> u64

@@ -11,8 +11,8 @@ ghost use Rattle.pg_run_thread.specs.Operands.{operand, optional_operand, argume
 ghost use Rattle.pg_run_thread.specs.EdgeStep.{is_set};
 ghost use Rattle.pg_run_thread.specs.Step.{are_set};
 
+use pg_ir::pg_num::{Pointer, pack};
 use pg_ir::{Case, Incoming, Index, Op, Program, Value};
-use pg_num::{Pointer, pack};
 
 /// The pointer to the first byte of a global.
 fn global_pointer(p: &Program, g: u32) -> u64

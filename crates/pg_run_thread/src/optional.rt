@@ -2,7 +2,7 @@
 
 ghost use Rattle.std.specs.Prelude.{◌≡◌, ℕ, ◌<◌, Option, length, None, Some, IfSome};
 ghost use Rattle.std.specs.List.{AllByRecursion};
-ghost use Rattle.pg_num.specs.Numbers.{divided, modulus};
+ghost use Rattle.pg_ir.specs.pg_num.Numbers.{divided, modulus};
 ghost use Rattle.pg_ir.specs.declared.value.Index.{Index};
 ghost use Rattle.pg_ir.specs.Operands.{CanRead, CanReadAll};
 ghost use Rattle.pg_run_thread.specs.Operands.{argument, operand, operands_of};
@@ -11,8 +11,8 @@ ghost use Rattle.pg_run_thread.specs.Needs.{HasWidth, OperandsFit, moved_each_if
 
 use crate::compute::{chosen, moved_once, number_of_bool};
 use crate::operands::value_of;
+use pg_ir::pg_num::{Division, Width, add, bits, compare, divide, mul, sext, shift, sub, trunc};
 use pg_ir::{Index, Op, Program, Value};
-use pg_num::{Division, Width, add, bits, compare, divide, mul, sext, shift, sub, trunc};
 
 /// The values of two operands, where both have one.
 fn pair_of(p: &Program, registers: &[Option<u64>], left: Value, right: Value) -> Option<(u64, u64)>

@@ -2,8 +2,8 @@
 
 ghost use Rattle.std.specs.Prelude.{◌≡◌, ◌<◌, ◌≤◌, ◌+◌, ◌∷◌, [], length, map, IfOk, IfSome, Some, true, false};
 ghost use Rattle.std.specs.List.{AllByRecursion};
-ghost use Rattle.pg_num.specs.declared.layout.TheConstants.{THREAD_GRANULES};
-ghost use Rattle.pg_num.specs.declared.limits.TheConstants.{INSTRUCTION_LIMIT, THREAD_LIMIT};
+ghost use Rattle.pg_ir.specs.pg_num.declared.layout.TheConstants.{THREAD_GRANULES};
+ghost use Rattle.pg_ir.specs.pg_num.declared.limits.TheConstants.{INSTRUCTION_LIMIT, THREAD_LIMIT};
 ghost use Rattle.pg_ir.specs.declared.instr.Op.TheVariants.{Ret, CallLibrary};
 ghost use Rattle.pg_ir.specs.Operands.{CanRead, CanReadReturned};
 ghost use Rattle.pg_run_thread.specs.LocalState.{own_memory};

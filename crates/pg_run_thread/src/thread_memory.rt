@@ -1,13 +1,13 @@
 //! A thread's memory: its stack and its heap.
 
 ghost use Rattle.std.specs.Prelude.{◌≡◌, ◌+◌, ◌*◌, ◌<◌, ◌≤◌, ◌^◌, IsTrue};
-ghost use Rattle.pg_num.specs.declared.layout.TheConstants.{THREAD_GRANULES};
-ghost use Rattle.pg_num.specs.declared.limits.TheConstants.{THREAD_LIMIT};
+ghost use Rattle.pg_ir.specs.pg_num.declared.layout.TheConstants.{THREAD_GRANULES};
+ghost use Rattle.pg_ir.specs.pg_num.declared.limits.TheConstants.{THREAD_LIMIT};
 ghost use Rattle.pg_ir.specs.WellFormed.{granules_for};
 ghost use Rattle.pg_run_thread.specs.Step.{has_room, pushed, allocated, heap_with};
 
-use pg_num::layout::{GLOBALS_END, THREAD_GRANULES};
-use pg_num::{Pointer, pack};
+use pg_ir::pg_num::layout::{GLOBALS_END, THREAD_GRANULES};
+use pg_ir::pg_num::{Pointer, pack};
 
 /// What a thread has taken of its memory: how many granules of 8 bytes its stack has at the
 /// front, and its heap at the end.

@@ -3,7 +3,7 @@ use Rattle.std.specs.Prelude.{◌≡◌, ℕ, zero, suc, ◌+◌, ◌==◌, ◌&
 use Rattle.std.specs.Prelude.{None, is_some, slice_get, if◌then◌else◌}
 use Rattle.std.specs.List.{filter_map, list_any, position_from}
 use Rattle.std.specs.Option.{option_to_list}
-use Rattle.pg_num.specs.Places.{ByteRange}
+use Rattle.pg_ir.specs.pg_num.Places.{ByteRange}
 use Rattle.pg_ir.specs.declared.ids.InstrId.{InstrId}
 use Rattle.pg_law_threads.specs.Steps.{View}
 use Rattle.pg_law_threads.specs.Intervals.{Timed, times, owners}

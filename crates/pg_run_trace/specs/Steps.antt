@@ -1,8 +1,8 @@
 -- What a step of a run tells of itself: its access to memory, and its event.
 use Rattle.std.specs.Prelude.{ℕ, ◌==◌, List, Bool, true, false, Option, Some, None, is_some, count_by, if◌then◌else◌}
 use Rattle.std.specs.List.{filter_map}
-use Rattle.pg_num.specs.Places.{ByteRange}
-use Rattle.pg_num.specs.Pointers.{byte_place}
+use Rattle.pg_ir.specs.pg_num.Places.{ByteRange}
+use Rattle.pg_ir.specs.pg_num.Pointers.{byte_place}
 use Rattle.pg_run_trace.specs.declared.turn.TurnKind.{TurnKind}
 use Rattle.pg_run_trace.specs.declared.turn.TurnKind.TheVariants as turns
 use Rattle.pg_run_trace.specs.declared.turn.Turn.{Turn}

@@ -15,6 +15,8 @@ mod turn;
 pub use best::Best;
 pub use kinds::{happening_of, kind_of, object_of};
 pub use lists::{InstrIds, Replies, Turns};
+pub use pg_ir;
+pub use pg_ir::pg_num;
 pub use schedule::Schedule;
 pub use step::{Access, Event, Happening, Step, StepKind, Write};
 pub use trace::Trace;

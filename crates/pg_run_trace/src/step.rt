@@ -1,14 +1,14 @@
 //! Steps of a run.
 
 ghost use Rattle.std.specs.Prelude.{◌≡◌};
-ghost use Rattle.pg_num.specs.Places.{meet};
-ghost use Rattle.pg_num.specs.Pointers.{byte_place};
+ghost use Rattle.pg_ir.specs.pg_num.Places.{meet};
+ghost use Rattle.pg_ir.specs.pg_num.Pointers.{byte_place};
 ghost use Rattle.pg_run_trace.specs.Steps.{access_of, event_of, happening_in, range_of, write_by};
 
 use crate::turn::{Turn, TurnKind};
+use pg_ir::pg_num::layout::GRANULE_BYTES;
+use pg_ir::pg_num::{Pointer, unpack};
 use pg_ir::{InstrId, ThreadNo};
-use pg_num::layout::GRANULE_BYTES;
-use pg_num::{Pointer, unpack};
 
 /// A step of a run: its thread, its instruction, and what is read of it after the run.
 #[derive(Clone, Copy, Debug, PartialEq, Eq)]

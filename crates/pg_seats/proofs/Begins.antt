@@ -7,22 +7,22 @@ use mathlib.Core.Option.{some, some-injective, some-ne-none}
 use lib.ListN.{get_elem?}
 use Rattle.atomic_table.specs.Table.{State, keeps, opening}
 use Rattle.atomic_table.proofs.Lists.{at_set}
-use Rattle.pg_num.specs.Places.{ByteRange}
-use Rattle.pg_num.specs.declared.layout.TheConstants.{GRANULE_COUNT, MEMORY_BYTES}
-use Rattle.pg_num.specs.declared.limits.TheConstants.{THREAD_LIMIT}
-use Rattle.pg_ir.specs.Program.{NumberedProgram}
-use Rattle.pg_run_memory.specs.Bytes.{byte_of}
-use Rattle.pg_run_memory.specs.Initial as memory
-use Rattle.pg_run_memory.specs.Initial.{initial_byte}
-use Rattle.pg_run_memory.proofs.ReadsAndWrites.{byte_at-memory_of}
-use Rattle.pg_law_threads.specs.Cuts.{Mark, pending, kept, whole, IsCut, IsBelow, count_done}
-use Rattle.pg_law_threads.specs.Effects.{deeds}
-use Rattle.pg_law_threads.specs.Intervals.{Timed, times, did_of}
-use Rattle.pg_law_threads.specs.Standing.{Stands, done_of, left_by}
-use Rattle.pg_run.specs.State.{initial}
-use Rattle.pg_law_effects.specs.Views.{cell_at}
-use Rattle.pg_law_effects.proofs.ReachedStates.{byte_first}
-use Rattle.pg_law_runs.specs.Deeds.{Did}
+use Rattle.pg_law_course.specs.pg_num.Places.{ByteRange}
+use Rattle.pg_law_course.specs.pg_num.declared.layout.TheConstants.{GRANULE_COUNT, MEMORY_BYTES}
+use Rattle.pg_law_course.specs.pg_num.declared.limits.TheConstants.{THREAD_LIMIT}
+use Rattle.pg_law_course.specs.pg_ir.Program.{NumberedProgram}
+use Rattle.pg_law_course.specs.pg_run_memory.Bytes.{byte_of}
+use Rattle.pg_law_course.specs.pg_run_memory.Initial as memory
+use Rattle.pg_law_course.specs.pg_run_memory.Initial.{initial_byte}
+use Rattle.pg_law_course.proofs.of_pg_run_memory.ReadsAndWrites.{byte_at-memory_of}
+use Rattle.pg_law_course.specs.pg_law_threads.Cuts.{Mark, pending, kept, whole, IsCut, IsBelow, count_done}
+use Rattle.pg_law_course.specs.pg_law_threads.Effects.{deeds}
+use Rattle.pg_law_course.specs.pg_law_threads.Intervals.{Timed, times, did_of}
+use Rattle.pg_law_course.specs.pg_law_threads.Standing.{Stands, done_of, left_by}
+use Rattle.pg_law_course.specs.pg_run.State.{initial}
+use Rattle.pg_law_course.specs.pg_law_effects.Views.{cell_at}
+use Rattle.pg_law_course.proofs.of_pg_law_effects.ReachedStates.{byte_first}
+use Rattle.pg_law_course.specs.pg_law_runs.Deeds.{Did}
 use Rattle.pg_words.specs.Calls.{AllowsLoad, AllowsStore, NoSlot, granule_word}
 use Rattle.pg_words.specs.declared.layout.TheConstants.{GRANULE_WORDS, THREAD_WORDS, TURN_WORD, WORD_COUNT}
 use Rattle.pg_seats.specs.declared.run.Run.{Run}
@@ -311,7 +311,7 @@ module _ (r : Run) (words : List ℕ) (views : List View) (n id : ℕ) (h : Lays
     gathered = λ t l. refl;
     unseated = λ t l. (count_open (times deeds (turns_in r) 0 (plan_of r)) t, refl);
     memory = λ b lt. cells b lt ∙ sym (turn_none r (done_of (none_stands r)) (λ t. 0) (slice_get (turns_in r) 0) b ((left_by (first_of r) (none_stands r)).cells b) (λ t e. refl)
-        ∙ ap (λ l. (Rattle.pg_law_threads.specs.Effects.effects (first_of r) (did_of l)).cells b) (kept_open (times deeds (turns_in r) 0 (plan_of r))));
+        ∙ ap (λ l. (Rattle.pg_law_course.specs.pg_law_threads.Effects.effects (first_of r) (did_of l)).cells b) (kept_open (times deeds (turns_in r) 0 (plan_of r))));
   }
     where
       old : (k : ℕ) (v : View) → IsOld r.epoch v → Fits r no_seats (done_of (none_stands r)) 0 k v

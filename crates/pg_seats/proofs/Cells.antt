@@ -3,12 +3,12 @@ use Rattle.std.proofs.Common.{◌≡◌, ◌≢◌, ℕ, zero, suc, [], ◌∷�
 use Rattle.std.specs.Prelude.{slice_index, nat_lt, nat_le, if◌then◌else◌}
 use Rattle.std.proofs.lemmas.Bool.{cases_lt, cases_eq, lt-ltb, le-ltb, le-leb}
 use Rattle.std.proofs.lemmas.Bool.Decides.{nat_tests}
-use Rattle.pg_num.specs.Places.{ByteRange}
-use Rattle.pg_num.specs.declared.layout.TheConstants.{GRANULE_COUNT, MEMORY_BYTES}
-use Rattle.pg_num.specs.declared.limits.TheConstants.{THREAD_LIMIT}
-use Rattle.pg_run_memory.specs.Bytes.{byte_of, with_bytes}
-use Rattle.pg_run_trace.specs.Races.{is_in}
-use Rattle.pg_law_threads.specs.Effects.{or_old}
+use Rattle.pg_law_course.specs.pg_num.Places.{ByteRange}
+use Rattle.pg_law_course.specs.pg_num.declared.layout.TheConstants.{GRANULE_COUNT, MEMORY_BYTES}
+use Rattle.pg_law_course.specs.pg_num.declared.limits.TheConstants.{THREAD_LIMIT}
+use Rattle.pg_law_course.specs.pg_run_memory.Bytes.{byte_of, with_bytes}
+use Rattle.pg_law_course.specs.pg_run_trace.Races.{is_in}
+use Rattle.pg_law_course.specs.pg_law_threads.Effects.{or_old}
 use Rattle.pg_words.specs.Calls.{granule_word, thread_word}
 use Rattle.pg_words.specs.declared.layout.TheConstants.{GRANULE_WORDS, THREAD_WORDS, TURN_WORD, WORD_COUNT}
 use Rattle.pg_seats.specs.Rule.{cell_in}

@@ -7,18 +7,18 @@ use mathlib.Core.Option.{some}
 use lib.ListN.{get_elem?}
 use Rattle.atomic_table.specs.Table.{State, keeps}
 use Rattle.atomic_table.proofs.Lists.{at_set}
-use Rattle.pg_num.specs.Places.{ByteRange}
-use Rattle.pg_num.specs.declared.layout.TheConstants.{GRANULE_COUNT, MEMORY_BYTES}
-use Rattle.pg_num.specs.declared.limits.TheConstants.{THREAD_LIMIT}
-use Rattle.pg_run_memory.specs.Bytes.{byte_of}
-use Rattle.pg_law_threads.specs.Intervals.{Timed, times}
-use Rattle.pg_law_threads.specs.Cuts.{kept}
-use Rattle.pg_law_threads.specs.Standing.{done_of, left_by}
-use Rattle.pg_law_threads.specs.Intervals as intervals
-use Rattle.pg_law_threads.proofs.DoneLists.{all_did, all_kept, all_map, at_marks}
-use Rattle.pg_law_threads.proofs.EffectsOfSteps.{cell_part, skips}
-use Rattle.pg_law_runs.specs.Deeds.{Did}
-use Rattle.pg_law_effects.proofs.ReachedStates.{byte_first}
+use Rattle.pg_law_course.specs.pg_num.Places.{ByteRange}
+use Rattle.pg_law_course.specs.pg_num.declared.layout.TheConstants.{GRANULE_COUNT, MEMORY_BYTES}
+use Rattle.pg_law_course.specs.pg_num.declared.limits.TheConstants.{THREAD_LIMIT}
+use Rattle.pg_law_course.specs.pg_run_memory.Bytes.{byte_of}
+use Rattle.pg_law_course.specs.pg_law_threads.Intervals.{Timed, times}
+use Rattle.pg_law_course.specs.pg_law_threads.Cuts.{kept}
+use Rattle.pg_law_course.specs.pg_law_threads.Standing.{done_of, left_by}
+use Rattle.pg_law_course.specs.pg_law_threads.Intervals as intervals
+use Rattle.pg_law_course.proofs.of_pg_law_threads.DoneLists.{all_did, all_kept, all_map, at_marks}
+use Rattle.pg_law_course.proofs.of_pg_law_threads.EffectsOfSteps.{cell_part, skips}
+use Rattle.pg_law_course.specs.pg_law_runs.Deeds.{Did}
+use Rattle.pg_law_course.proofs.of_pg_law_effects.ReachedStates.{byte_first}
 use Rattle.pg_words.specs.Calls.{AllowsLoad, AllowsStore, NoSlot, granule_word, thread_word}
 use Rattle.pg_words.specs.declared.layout.TheConstants.{GRANULE_WORDS, TURN_WORD, WORD_COUNT}
 use Rattle.pg_seats.specs.declared.run.Run.{Run}

@@ -14,3 +14,11 @@ pub mod Begins
 pub mod SeatLaws
 pub mod ThreadSteps
 pub mod Ends
+pub use Rattle.pg_law_course.proofs as of_pg_law_course
+pub use Rattle.pg_law_course.proofs.of_pg_law_effects
+pub use Rattle.pg_law_course.proofs.of_pg_law_order
+pub use Rattle.pg_law_course.proofs.of_pg_law_runs
+pub use Rattle.pg_law_course.proofs.of_pg_law_threads
+pub use Rattle.pg_law_course.proofs.of_pg_num
+pub use Rattle.pg_law_course.proofs.of_pg_run
+pub use Rattle.pg_law_course.proofs.of_pg_run_memory

@@ -6,12 +6,12 @@ use mathlib.Core.Option.{some}
 use lib.ListN.{get_elem?}
 use Rattle.atomic_table.specs.Table.{State, keeps}
 use Rattle.atomic_table.proofs.Lists.{set_again}
-use Rattle.pg_num.specs.Places.{ByteRange, IsPlace}
-use Rattle.pg_num.specs.declared.layout.TheConstants.{MEMORY_BYTES}
-use Rattle.pg_law_threads.specs.Effects.{deeds, or_old}
-use Rattle.pg_law_threads.specs.Intervals.{Timed}
-use Rattle.pg_run_trace.specs.Steps.{access_of}
-use Rattle.pg_law_runs.specs.Deeds.{Did}
+use Rattle.pg_law_course.specs.pg_num.Places.{ByteRange, IsPlace}
+use Rattle.pg_law_course.specs.pg_num.declared.layout.TheConstants.{MEMORY_BYTES}
+use Rattle.pg_law_course.specs.pg_law_threads.Effects.{deeds, or_old}
+use Rattle.pg_law_course.specs.pg_law_threads.Intervals.{Timed}
+use Rattle.pg_law_course.specs.pg_run_trace.Steps.{access_of}
+use Rattle.pg_law_course.specs.pg_law_runs.Deeds.{Did}
 use Rattle.pg_words.specs.Calls.{AllowsLoad, NoSlot, granule_word, number_at}
 use Rattle.pg_words.specs.declared.layout.TheConstants.{TURN_WORD}
 use Rattle.pg_seats.specs.declared.run.Standing.{Standing}

@@ -4,14 +4,14 @@ use Rattle.std.specs.Prelude.{slice_get, slice_index, is_some, if◌then◌else�
 use Rattle.std.proofs.lemmas.Bool.{cases_lt, cases_eq, false_from_ne_true}
 use mathlib.Core.Option.{some}
 use lib.ListN.{get_elem?}
-use Rattle.pg_num.specs.declared.layout.TheConstants.{MEMORY_BYTES}
-use Rattle.pg_num.specs.declared.limits.TheConstants.{THREAD_LIMIT}
-use Rattle.pg_law_threads.specs.Steps.{touches}
-use Rattle.pg_law_threads.specs.Effects.{deeds, effects, or_old}
-use Rattle.pg_law_threads.specs.Intervals.{Timed}
-use Rattle.pg_law_threads.specs.Standing.{Goes, done_of, left_by}
-use Rattle.pg_law_threads.proofs.StepsAtCuts.{goes_plain, goes_turn}
-use Rattle.pg_law_runs.specs.Deeds.{Did}
+use Rattle.pg_law_course.specs.pg_num.declared.layout.TheConstants.{MEMORY_BYTES}
+use Rattle.pg_law_course.specs.pg_num.declared.limits.TheConstants.{THREAD_LIMIT}
+use Rattle.pg_law_course.specs.pg_law_threads.Steps.{touches}
+use Rattle.pg_law_course.specs.pg_law_threads.Effects.{deeds, effects, or_old}
+use Rattle.pg_law_course.specs.pg_law_threads.Intervals.{Timed}
+use Rattle.pg_law_course.specs.pg_law_threads.Standing.{Goes, done_of, left_by}
+use Rattle.pg_law_course.proofs.of_pg_law_threads.StepsAtCuts.{goes_plain, goes_turn}
+use Rattle.pg_law_course.specs.pg_law_runs.Deeds.{Did}
 use Rattle.pg_words.specs.declared.layout.TheConstants.{TURN_WORD}
 use Rattle.pg_seats.specs.declared.run.Run.{Run}
 use Rattle.pg_seats.specs.declared.run.Standing.{Standing}

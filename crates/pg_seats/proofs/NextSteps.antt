@@ -3,19 +3,19 @@ use Rattle.std.proofs.Common.{◌≡◌, ◌≢◌, ℕ, zero, suc, ◌==◌, �
 use Rattle.std.specs.Prelude.{slice_get, is_some}
 use Rattle.std.specs.List.{AllByRecursion as AllOf}
 use Rattle.std.proofs.lemmas.Bool.{eqb-true, eq-eqb, false_from_ne_true}
-use Rattle.pg_law_threads.specs.Steps.{Conflict, touches, meet_at}
-use Rattle.pg_law_threads.specs.Intervals.{Timed, times, did_of}
-use Rattle.pg_law_threads.specs.Cuts.{Mark, pending, kept, whole, IsCut, IsBelow, count_done}
-use Rattle.pg_law_threads.specs.Effects.{deeds, effects}
-use Rattle.pg_law_threads.specs.Plans.{IsPlan}
-use Rattle.pg_law_threads.specs.Standing.{own, Stands, done_of, left_by}
-use Rattle.pg_law_threads.proofs.DoneLists.{First, find, cut_at, all_map, both_of, cons_head, cons_tail}
-use Rattle.pg_law_threads.proofs.TimedSteps.{did_times}
-use Rattle.pg_law_threads.proofs.NextSteps as cuts
-use Rattle.pg_law_threads.proofs.EffectsOfSteps.{cell_part}
-use Rattle.pg_law_threads.proofs.StatesAtCuts as places
-use Rattle.pg_law_threads.proofs.StepsAtCuts.{at_count, at_end, turn_of}
-use Rattle.pg_law_runs.specs.Deeds.{Did, Seen}
+use Rattle.pg_law_course.specs.pg_law_threads.Steps.{Conflict, touches, meet_at}
+use Rattle.pg_law_course.specs.pg_law_threads.Intervals.{Timed, times, did_of}
+use Rattle.pg_law_course.specs.pg_law_threads.Cuts.{Mark, pending, kept, whole, IsCut, IsBelow, count_done}
+use Rattle.pg_law_course.specs.pg_law_threads.Effects.{deeds, effects}
+use Rattle.pg_law_course.specs.pg_law_threads.Plans.{IsPlan}
+use Rattle.pg_law_course.specs.pg_law_threads.Standing.{own, Stands, done_of, left_by}
+use Rattle.pg_law_course.proofs.of_pg_law_threads.DoneLists.{First, find, cut_at, all_map, both_of, cons_head, cons_tail}
+use Rattle.pg_law_course.proofs.of_pg_law_threads.TimedSteps.{did_times}
+use Rattle.pg_law_course.proofs.of_pg_law_threads.NextSteps as cuts
+use Rattle.pg_law_course.proofs.of_pg_law_threads.EffectsOfSteps.{cell_part}
+use Rattle.pg_law_course.proofs.of_pg_law_threads.StatesAtCuts as places
+use Rattle.pg_law_course.proofs.of_pg_law_threads.StepsAtCuts.{at_count, at_end, turn_of}
+use Rattle.pg_law_course.specs.pg_law_runs.Deeds.{Did, Seen}
 use Rattle.pg_law_course.specs.Course.{before}
 
 some_same : {A : Type 0} (x y : A) → Some x ≡ Some y → x ≡ y

@@ -3,14 +3,14 @@ use Rattle.std.proofs.Common.{◌≡◌, ℕ, suc, ◌+◌, ◌-◌, ◌<◌, �
 use Rattle.std.specs.Prelude.{nat_lt, is_some, slice_get, if◌then◌else◌}
 use Rattle.std.proofs.lemmas.Bool.{cases_lt, cases_eq, eq-eqb, ne_eqb, lt-ltb, le-ltb}
 use Rattle.std.proofs.lemmas.Bool.Decides.{nat_tests}
-use Rattle.pg_num.specs.declared.layout.TheConstants.{MEMORY_BYTES}
-use Rattle.pg_run_memory.specs.Bytes.{byte_of}
-use Rattle.pg_law_threads.specs.Effects.{or_old}
-use Rattle.pg_law_threads.specs.Intervals.{Timed}
-use Rattle.pg_run_trace.specs.declared.step.Access.{Access}
-use Rattle.pg_run_trace.specs.Races.{is_in}
-use Rattle.pg_run_trace.specs.Steps.{access_of, range_of}
-use Rattle.pg_law_runs.specs.Deeds.{Did}
+use Rattle.pg_law_course.specs.pg_num.declared.layout.TheConstants.{MEMORY_BYTES}
+use Rattle.pg_law_course.specs.pg_run_memory.Bytes.{byte_of}
+use Rattle.pg_law_course.specs.pg_law_threads.Effects.{or_old}
+use Rattle.pg_law_course.specs.pg_law_threads.Intervals.{Timed}
+use Rattle.pg_law_course.specs.pg_run_trace.declared.step.Access.{Access}
+use Rattle.pg_law_course.specs.pg_run_trace.Races.{is_in}
+use Rattle.pg_law_course.specs.pg_run_trace.Steps.{access_of, range_of}
+use Rattle.pg_law_course.specs.pg_law_runs.Deeds.{Did}
 use Rattle.pg_seats.specs.declared.run.Run.{Run}
 use Rattle.pg_seats.specs.Plan.{own_of}
 use Rattle.pg_seats.specs.Views.{bit, has_store, has_word, is_put, is_write, needs, part_at}

@@ -5,19 +5,19 @@ use Rattle.std.proofs.lemmas.Bool.{eqb-true, lt-ltb, le-leb, and_parts}
 use mathlib.Core.Option.{some}
 use lib.ListN.{get_elem?}
 use Rattle.atomic_table.specs.Table.{State}
-use Rattle.pg_num.specs.Places.{ByteRange, IsPlace}
-use Rattle.pg_num.specs.declared.layout.TheConstants.{MEMORY_BYTES}
-use Rattle.pg_num.proofs.Granules.{IsPlace-in_granule}
-use Rattle.pg_run_memory.specs.Bytes.{byte_of}
-use Rattle.pg_run_memory.proofs.Parts.{part_number}
-use Rattle.pg_run_memory.proofs.Places.{same_number}
-use Rattle.pg_law_threads.specs.Steps.{touches}
-use Rattle.pg_law_threads.specs.Effects.{deeds}
-use Rattle.pg_law_threads.specs.Intervals.{Timed}
-use Rattle.pg_run_trace.specs.declared.step.Access.{Access}
-use Rattle.pg_run_trace.specs.Races.{is_in, reads_in, writes_in}
-use Rattle.pg_run_trace.specs.Steps.{access_of, range_of}
-use Rattle.pg_law_runs.specs.Deeds.{Did}
+use Rattle.pg_law_course.specs.pg_num.Places.{ByteRange, IsPlace}
+use Rattle.pg_law_course.specs.pg_num.declared.layout.TheConstants.{MEMORY_BYTES}
+use Rattle.pg_law_course.proofs.of_pg_num.Granules.{IsPlace-in_granule}
+use Rattle.pg_law_course.specs.pg_run_memory.Bytes.{byte_of}
+use Rattle.pg_law_course.proofs.of_pg_run_memory.Parts.{part_number}
+use Rattle.pg_law_course.proofs.of_pg_run_memory.Places.{same_number}
+use Rattle.pg_law_course.specs.pg_law_threads.Steps.{touches}
+use Rattle.pg_law_course.specs.pg_law_threads.Effects.{deeds}
+use Rattle.pg_law_course.specs.pg_law_threads.Intervals.{Timed}
+use Rattle.pg_law_course.specs.pg_run_trace.declared.step.Access.{Access}
+use Rattle.pg_law_course.specs.pg_run_trace.Races.{is_in, reads_in, writes_in}
+use Rattle.pg_law_course.specs.pg_run_trace.Steps.{access_of, range_of}
+use Rattle.pg_law_course.specs.pg_law_runs.Deeds.{Did}
 use Rattle.pg_words.specs.Calls.{NoSlot, granule_word, number_at}
 use Rattle.pg_words.specs.declared.layout.TheConstants.{GRANULE_WORDS}
 use Rattle.pg_seats.specs.declared.run.Run.{Run}

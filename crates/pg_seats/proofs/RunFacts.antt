@@ -2,22 +2,22 @@
 use Rattle.std.proofs.Common.{◌≡◌, ℕ, ℤ, ◌<◌, ◌^◌, List, [], ◌∷◌, length, Some, zero, suc, refl, ap, subst, arith}
 use Rattle.std.specs.Prelude.{slice_get, ◌==◌}
 use Rattle.std.specs.List.{AllByRecursion as AllOf}
-use Rattle.pg_law_threads.specs.Effects.{deeds}
-use Rattle.pg_law_threads.specs.Intervals.{Timed, done_after, times, turns_done}
-use Rattle.pg_law_threads.specs.Plans.{IsPlan}
-use Rattle.pg_law_threads.proofs.ChosenSteps.{all_filter}
-use Rattle.pg_law_threads.proofs.TimedSteps.{within_end}
-use Rattle.pg_run_trace.specs.declared.turn.Turn.{Turn}
-use Rattle.pg_run.specs.State.{initial}
-use Rattle.pg_law_effects.specs.PermittedSteps.{none_taken}
-use Rattle.pg_law_runs.specs.Cuts.{CanRun}
-use Rattle.pg_law_runs.specs.Deeds.{Did, owners_of}
+use Rattle.pg_law_course.specs.pg_law_threads.Effects.{deeds}
+use Rattle.pg_law_course.specs.pg_law_threads.Intervals.{Timed, done_after, times, turns_done}
+use Rattle.pg_law_course.specs.pg_law_threads.Plans.{IsPlan}
+use Rattle.pg_law_course.proofs.of_pg_law_threads.ChosenSteps.{all_filter}
+use Rattle.pg_law_course.proofs.of_pg_law_threads.TimedSteps.{within_end}
+use Rattle.pg_law_course.specs.pg_run_trace.declared.turn.Turn.{Turn}
+use Rattle.pg_law_course.specs.pg_run.State.{initial}
+use Rattle.pg_law_course.specs.pg_law_effects.PermittedSteps.{none_taken}
+use Rattle.pg_law_course.specs.pg_law_runs.Cuts.{CanRun}
+use Rattle.pg_law_course.specs.pg_law_runs.Deeds.{Did, owners_of}
 use Rattle.pg_law_course.specs.Plan as plans
 use Rattle.pg_law_course.proofs.GuidedPlan.{shared_plan}
-use Rattle.pg_law_order.specs.Good.{IsGoodRun, run_along}
-use Rattle.pg_ir.specs.Program.{NumberedProgram}
-use Rattle.pg_run_trace.specs.declared.schedule.Schedule.{Schedule}
-use Rattle.pg_law_order.proofs.GoodRunsServe.{whole}
+use Rattle.pg_law_course.specs.pg_law_order.Good.{IsGoodRun, run_along}
+use Rattle.pg_law_course.specs.pg_ir.Program.{NumberedProgram}
+use Rattle.pg_law_course.specs.pg_run_trace.declared.schedule.Schedule.{Schedule}
+use Rattle.pg_law_course.proofs.of_pg_law_order.GoodRunsServe.{whole}
 use Rattle.pg_seats.specs.declared.run.Run.{Run}
 use Rattle.pg_seats.specs.Plan.{IsEnforced, own_of, plan_of, turns_in}
 use Rattle.pg_seats.proofs.StepShapes.{IsShaped, all_shaped}

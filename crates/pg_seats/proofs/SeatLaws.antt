@@ -2,10 +2,10 @@
 use Rattle.std.proofs.Common.{◌≡◌, ℕ, true, false, List, Some, sym, ap, ◌∙◌, subst}
 use mathlib.Core.Option.{some}
 use lib.ListN.{get_elem?}
-use Rattle.pg_law_threads.specs.Steps.{touches}
-use Rattle.pg_law_threads.specs.Effects.{deeds}
-use Rattle.pg_law_threads.specs.Intervals.{Timed}
-use Rattle.pg_law_runs.specs.Deeds.{Did}
+use Rattle.pg_law_course.specs.pg_law_threads.Steps.{touches}
+use Rattle.pg_law_course.specs.pg_law_threads.Effects.{deeds}
+use Rattle.pg_law_course.specs.pg_law_threads.Intervals.{Timed}
+use Rattle.pg_law_course.specs.pg_law_runs.Deeds.{Did}
 use Rattle.pg_seats.specs.declared.run.Run.{Run}
 use Rattle.pg_seats.specs.declared.run.Standing.{Standing}
 use Rattle.pg_seats.specs.declared.run.View.{View}

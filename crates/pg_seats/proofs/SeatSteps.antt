@@ -6,7 +6,7 @@ use mathlib.Core.Option.{some, some-injective, some-ne-none}
 use lib.ListN.{get_elem?}
 use Rattle.atomic_table.specs.Table.{State, Joins, Splits}
 use Rattle.atomic_table.proofs.Lists.{at_last, at_longer, at_set, set_again, set_else}
-use Rattle.pg_law_threads.specs.Standing.{done_of}
+use Rattle.pg_law_course.specs.pg_law_threads.Standing.{done_of}
 use Rattle.pg_words.specs.Calls.{NoSlot}
 use Rattle.pg_seats.specs.declared.run.Run.{Run}
 use Rattle.pg_seats.specs.declared.run.Standing.{Standing}

@@ -4,34 +4,34 @@ use Rattle.std.specs.Prelude.{◌==◌, ◌&&◌, nat_lt, is_some, slice_get, if
 use Rattle.std.specs.List.{AllByRecursion as AllOf}
 use Rattle.std.proofs.lemmas.Bool.{eqb-true}
 use Rattle.std.proofs.lemmas.Bool.Decides.{nat_tests}
-use Rattle.pg_num.specs.declared.layout.TheConstants.{MEMORY_BYTES}
-use Rattle.pg_ir.specs.declared.ids.InstrId.{InstrId}
-use Rattle.pg_ir.specs.declared.request.Request.{Request}
-use Rattle.pg_ir.specs.declared.request.Request.TheVariants as requests
-use Rattle.pg_ir.specs.Program.{NumberedProgram}
-use Rattle.pg_run_memory.specs.Bytes.{byte_of}
-use Rattle.pg_run_thread.specs.declared.action.Action.{Action}
-use Rattle.pg_run_thread.specs.declared.action.Action.TheVariants as actions
-use Rattle.pg_run_thread.specs.LocalState.{fresh}
-use Rattle.pg_run_trace.specs.declared.step.Access.{Access}
-use Rattle.pg_run_trace.specs.declared.step.Step.{Step}
-use Rattle.pg_run_trace.specs.Kinds.{kind_of}
-use Rattle.pg_run_trace.specs.Races.{is_in}
-use Rattle.pg_run_trace.specs.Steps.{access_of, range_of}
-use Rattle.pg_run.specs.Locality.{IfDid}
-use Rattle.pg_run.specs.State.{State, next_of}
-use Rattle.pg_run.specs.MachineStep.{Answered, Stepped, answered, kind_told, number_in, operands_in, settled, step, taken}
-use Rattle.pg_run.specs.Runs.{IsRun, Takes}
-use Rattle.pg_law_effects.specs.Effect.{Effect, effect, effect_of, request_effect}
-use Rattle.pg_law_effects.specs.Meets.{byte_in, byte_written}
-use Rattle.pg_law_effects.specs.PermittedSteps.{one_more}
-use Rattle.pg_law_effects.specs.Told.{TellsAccess, TellsAs}
-use Rattle.pg_law_effects.specs.Views.{word_in}
-use Rattle.pg_law_effects.proofs.StepsApart.{left_by}
-use Rattle.pg_law_effects.proofs.ToldByStep.{tells_access}
-use Rattle.pg_law_runs.specs.Deeds.{Did, deed_of, deeds_of}
-use Rattle.pg_law_runs.proofs.ToldCells.{IsTold}
-use Rattle.pg_law_runs.proofs.ToldCells as cells
+use Rattle.pg_law_course.specs.pg_num.declared.layout.TheConstants.{MEMORY_BYTES}
+use Rattle.pg_law_course.specs.pg_ir.declared.ids.InstrId.{InstrId}
+use Rattle.pg_law_course.specs.pg_ir.declared.request.Request.{Request}
+use Rattle.pg_law_course.specs.pg_ir.declared.request.Request.TheVariants as requests
+use Rattle.pg_law_course.specs.pg_ir.Program.{NumberedProgram}
+use Rattle.pg_law_course.specs.pg_run_memory.Bytes.{byte_of}
+use Rattle.pg_law_course.specs.pg_run_thread.declared.action.Action.{Action}
+use Rattle.pg_law_course.specs.pg_run_thread.declared.action.Action.TheVariants as actions
+use Rattle.pg_law_course.specs.pg_run_thread.LocalState.{fresh}
+use Rattle.pg_law_course.specs.pg_run_trace.declared.step.Access.{Access}
+use Rattle.pg_law_course.specs.pg_run_trace.declared.step.Step.{Step}
+use Rattle.pg_law_course.specs.pg_run_trace.Kinds.{kind_of}
+use Rattle.pg_law_course.specs.pg_run_trace.Races.{is_in}
+use Rattle.pg_law_course.specs.pg_run_trace.Steps.{access_of, range_of}
+use Rattle.pg_law_course.specs.pg_run.Locality.{IfDid}
+use Rattle.pg_law_course.specs.pg_run.State.{State, next_of}
+use Rattle.pg_law_course.specs.pg_run.MachineStep.{Answered, Stepped, answered, kind_told, number_in, operands_in, settled, step, taken}
+use Rattle.pg_law_course.specs.pg_run.Runs.{IsRun, Takes}
+use Rattle.pg_law_course.specs.pg_law_effects.Effect.{Effect, effect, effect_of, request_effect}
+use Rattle.pg_law_course.specs.pg_law_effects.Meets.{byte_in, byte_written}
+use Rattle.pg_law_course.specs.pg_law_effects.PermittedSteps.{one_more}
+use Rattle.pg_law_course.specs.pg_law_effects.Told.{TellsAccess, TellsAs}
+use Rattle.pg_law_course.specs.pg_law_effects.Views.{word_in}
+use Rattle.pg_law_course.proofs.of_pg_law_effects.StepsApart.{left_by}
+use Rattle.pg_law_course.proofs.of_pg_law_effects.ToldByStep.{tells_access}
+use Rattle.pg_law_course.specs.pg_law_runs.Deeds.{Did, deed_of, deeds_of}
+use Rattle.pg_law_course.proofs.of_pg_law_runs.ToldCells.{IsTold}
+use Rattle.pg_law_course.proofs.of_pg_law_runs.ToldCells as cells
 use Rattle.pg_seats.specs.Views.{has_word, kind_leaves, leaves_word}
 
 -- what an access writes to a byte

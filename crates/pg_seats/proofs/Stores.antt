@@ -5,18 +5,18 @@ use Rattle.std.proofs.lemmas.Bool.{cases_lt, and_parts, eqb-true, eq-eqb, ne_eqb
 use mathlib.Core.Option.{some}
 use lib.ListN.{get_elem?}
 use Rattle.atomic_table.specs.Table.{State, keeps}
-use Rattle.pg_num.specs.Places.{ByteRange, IsPlace}
-use Rattle.pg_num.specs.declared.layout.TheConstants.{MEMORY_BYTES}
-use Rattle.pg_num.specs.declared.limits.TheConstants.{THREAD_LIMIT}
-use Rattle.pg_num.proofs.Granules.{IsPlace-in_granule, IsPlace-in_memory}
-use Rattle.pg_run_memory.specs.declared.delta.Delta.{Delta}
-use Rattle.pg_run_memory.specs.Bytes.{byte_of, with_bytes}
-use Rattle.pg_run_memory.specs.Words.{changed_by}
-use Rattle.pg_run_memory.proofs.Parts.{part_number}
-use Rattle.pg_law_threads.specs.Effects.{deeds, or_old}
-use Rattle.pg_law_threads.specs.Intervals.{Timed}
-use Rattle.pg_run_trace.specs.Steps.{access_of}
-use Rattle.pg_law_runs.specs.Deeds.{Did}
+use Rattle.pg_law_course.specs.pg_num.Places.{ByteRange, IsPlace}
+use Rattle.pg_law_course.specs.pg_num.declared.layout.TheConstants.{MEMORY_BYTES}
+use Rattle.pg_law_course.specs.pg_num.declared.limits.TheConstants.{THREAD_LIMIT}
+use Rattle.pg_law_course.proofs.of_pg_num.Granules.{IsPlace-in_granule, IsPlace-in_memory}
+use Rattle.pg_law_course.specs.pg_run_memory.declared.delta.Delta.{Delta}
+use Rattle.pg_law_course.specs.pg_run_memory.Bytes.{byte_of, with_bytes}
+use Rattle.pg_law_course.specs.pg_run_memory.Words.{changed_by}
+use Rattle.pg_law_course.proofs.of_pg_run_memory.Parts.{part_number}
+use Rattle.pg_law_course.specs.pg_law_threads.Effects.{deeds, or_old}
+use Rattle.pg_law_course.specs.pg_law_threads.Intervals.{Timed}
+use Rattle.pg_law_course.specs.pg_run_trace.Steps.{access_of}
+use Rattle.pg_law_course.specs.pg_law_runs.Deeds.{Did}
 use Rattle.pg_words.specs.Calls.{AllowsChange, AllowsLoad, AllowsPart, AllowsStore, Changes, NoSlot, granule_word, number_at}
 use Rattle.pg_seats.specs.declared.run.Standing.{Standing}
 use Rattle.pg_seats.specs.declared.run.View.{View}

@@ -2,26 +2,26 @@
 use Rattle.std.proofs.Common.{◌≡◌, ℕ, ◌+◌, ◌-◌, ◌==◌, ◌&&◌, ◌||◌, not, Bool, true, false, Option, Some, None, refl, sym, ap, ◌∙◌, subst, arith}
 use Rattle.std.specs.Prelude.{nat_lt, is_some, slice_get, if◌then◌else◌}
 use Rattle.std.proofs.lemmas.Bool.{eq-eqb, le-ltb}
-use Rattle.pg_num.specs.Places.{ByteRange}
-use Rattle.pg_num.specs.declared.layout.TheConstants.{MEMORY_BYTES}
-use Rattle.pg_ir.specs.declared.request.Request.{Request}
-use Rattle.pg_ir.specs.declared.request.Request.TheVariants as requests
-use Rattle.pg_run_memory.proofs.Places.{same_number}
-use Rattle.pg_law_threads.specs.Effects.{deeds}
-use Rattle.pg_law_threads.specs.Intervals.{Timed, timed}
-use Rattle.pg_run_thread.specs.declared.action.Action.{Action}
-use Rattle.pg_run_thread.specs.declared.action.Action.TheVariants as actions
-use Rattle.pg_run_thread.specs.LocalState.{LocalState}
-use Rattle.pg_run_thread.specs.Told.{id_of}
-use Rattle.pg_run_trace.specs.declared.step.Access.{Access}
-use Rattle.pg_run_trace.specs.declared.step.Happening.{Happening}
-use Rattle.pg_run_trace.specs.declared.step.Step.{Step}
-use Rattle.pg_run_trace.specs.declared.step.StepKind.{StepKind}
-use Rattle.pg_run_trace.specs.declared.step.StepKind.TheVariants as told
-use Rattle.pg_run_trace.specs.declared.turn.Turn.{Turn}
-use Rattle.pg_run_trace.specs.declared.turn.TurnKind.TheVariants as kinds
-use Rattle.pg_run_trace.specs.Steps.{access_kind, access_of, event_of, happening_in, range_of, turn_at}
-use Rattle.pg_law_runs.specs.Deeds.{Did, is_event_at}
+use Rattle.pg_law_course.specs.pg_num.Places.{ByteRange}
+use Rattle.pg_law_course.specs.pg_num.declared.layout.TheConstants.{MEMORY_BYTES}
+use Rattle.pg_law_course.specs.pg_ir.declared.request.Request.{Request}
+use Rattle.pg_law_course.specs.pg_ir.declared.request.Request.TheVariants as requests
+use Rattle.pg_law_course.proofs.of_pg_run_memory.Places.{same_number}
+use Rattle.pg_law_course.specs.pg_law_threads.Effects.{deeds}
+use Rattle.pg_law_course.specs.pg_law_threads.Intervals.{Timed, timed}
+use Rattle.pg_law_course.specs.pg_run_thread.declared.action.Action.{Action}
+use Rattle.pg_law_course.specs.pg_run_thread.declared.action.Action.TheVariants as actions
+use Rattle.pg_law_course.specs.pg_run_thread.LocalState.{LocalState}
+use Rattle.pg_law_course.specs.pg_run_thread.Told.{id_of}
+use Rattle.pg_law_course.specs.pg_run_trace.declared.step.Access.{Access}
+use Rattle.pg_law_course.specs.pg_run_trace.declared.step.Happening.{Happening}
+use Rattle.pg_law_course.specs.pg_run_trace.declared.step.Step.{Step}
+use Rattle.pg_law_course.specs.pg_run_trace.declared.step.StepKind.{StepKind}
+use Rattle.pg_law_course.specs.pg_run_trace.declared.step.StepKind.TheVariants as told
+use Rattle.pg_law_course.specs.pg_run_trace.declared.turn.Turn.{Turn}
+use Rattle.pg_law_course.specs.pg_run_trace.declared.turn.TurnKind.TheVariants as kinds
+use Rattle.pg_law_course.specs.pg_run_trace.Steps.{access_kind, access_of, event_of, happening_in, range_of, turn_at}
+use Rattle.pg_law_course.specs.pg_law_runs.Deeds.{Did, is_event_at}
 use Rattle.pg_law_course.specs.Plan.{is_shared}
 use Rattle.pg_law_course.specs.Steps.{Accessed, IsStepOf, access_by, accessed, happening_by, is_shared_action, made_by, number_in, word_in}
 use Rattle.pg_law_course.proofs.CourseSteps.{is_step, turn_high}
@@ -102,11 +102,11 @@ leaves_told x (told.Access a) u f = go a.event refl
 
     go : (b : Bool) → a.event ≡ b → leaves_word (told.Access a) ≡ kind_leaves u.kind
     go true e =
-        let h : Happening = record { kind = access_kind a.writes; object = Rattle.pg_num.specs.Pointers.byte_place a.pointer } in
+        let h : Happening = record { kind = access_kind a.writes; object = Rattle.pg_law_course.specs.pg_num.Pointers.byte_place a.pointer } in
         let i : happening_in (told.Access a) ≡ Some h = ap (λ b. if b then Some h else None) e in
         sym (plain a.writes) ∙ ap kind_leaves (turn_kind x (happening_in (told.Access a)) h u i f)
     go false e =
-        let h : Happening = record { kind = access_kind a.writes; object = Rattle.pg_num.specs.Pointers.byte_place a.pointer } in
+        let h : Happening = record { kind = access_kind a.writes; object = Rattle.pg_law_course.specs.pg_num.Pointers.byte_place a.pointer } in
         let i : happening_in (told.Access a) ≡ None = ap (λ b. if b then Some h else None) e in
         absurd (let g : turn_at x None ≡ Some u = ap (turn_at x) (sym i) ∙ f in cc)
 leaves_told x k u f = absurd cc
@@ -115,7 +115,7 @@ leaves_asked : (t object : ℕ) (action : Action) (h : Happening) → happening_
 leaves_asked t object (actions.Load q) h e = ap kind_leaves (sym (happens_kind (record { kind = kinds.Load; object = q.start }) h e))
 leaves_asked t object (actions.Store q n) h e = ap kind_leaves (sym (happens_kind (record { kind = kinds.Store; object = q.start }) h e))
 leaves_asked t object (actions.Event r) h e =
-    ap kind_leaves (sym (happens_kind (record { kind = Rattle.pg_run_trace.specs.Kinds.kind_of r; object = Rattle.pg_run_trace.specs.Kinds.object_of t object r }) h e))
+    ap kind_leaves (sym (happens_kind (record { kind = Rattle.pg_law_course.specs.pg_run_trace.Kinds.kind_of r; object = Rattle.pg_law_course.specs.pg_run_trace.Kinds.object_of t object r }) h e))
 leaves_asked t object action h e = absurd cc
 
 -- ---- the step
@@ -215,14 +215,14 @@ module _ (w : Standing) (k : ℕ) (l : LocalState) (d : Did) (h : StandsBefore w
   at_word : (t : ℕ) → MEMORY_BYTES + t - MEMORY_BYTES ≡ t
   at_word t = omega arith
 
-  reads_word : (r : Request) → action_of w l ≡ actions.Event r → (t : ℕ) → Rattle.pg_law_effects.specs.Effect.word_asked w.thread r ≡ Some t → d.reads (MEMORY_BYTES + t) ≡ true
+  reads_word : (r : Request) → action_of w l ≡ actions.Event r → (t : ℕ) → Rattle.pg_law_course.specs.pg_law_effects.Effect.word_asked w.thread r ≡ Some t → d.reads (MEMORY_BYTES + t) ≡ true
   reads_word r e t asked =
       step.reads (MEMORY_BYTES + t)
-      ∙ ap (λ a. if nat_lt (MEMORY_BYTES + t) MEMORY_BYTES then Rattle.pg_law_effects.specs.Meets.is_in_range (Rattle.pg_law_effects.specs.Effect.range_read a) (MEMORY_BYTES + t)
-      else Rattle.pg_law_effects.specs.Views.is_thread (Rattle.pg_law_effects.specs.Effect.word_read_by w.thread a) (MEMORY_BYTES + t - MEMORY_BYTES)) e
-      ∙ ap (λ b. if b then Rattle.pg_law_effects.specs.Meets.is_in_range (Rattle.pg_law_effects.specs.Effect.range_read (actions.Event r)) (MEMORY_BYTES + t)
-      else Rattle.pg_law_effects.specs.Views.is_thread (Rattle.pg_law_effects.specs.Effect.word_asked w.thread r) (MEMORY_BYTES + t - MEMORY_BYTES)) (behind t)
-      ∙ ap (λ o. Rattle.pg_law_effects.specs.Views.is_thread o (MEMORY_BYTES + t - MEMORY_BYTES)) asked ∙ eq-eqb t (MEMORY_BYTES + t - MEMORY_BYTES) (sym (at_word t))
+      ∙ ap (λ a. if nat_lt (MEMORY_BYTES + t) MEMORY_BYTES then Rattle.pg_law_course.specs.pg_law_effects.Meets.is_in_range (Rattle.pg_law_course.specs.pg_law_effects.Effect.range_read a) (MEMORY_BYTES + t)
+      else Rattle.pg_law_course.specs.pg_law_effects.Views.is_thread (Rattle.pg_law_course.specs.pg_law_effects.Effect.word_read_by w.thread a) (MEMORY_BYTES + t - MEMORY_BYTES)) e
+      ∙ ap (λ b. if b then Rattle.pg_law_course.specs.pg_law_effects.Meets.is_in_range (Rattle.pg_law_course.specs.pg_law_effects.Effect.range_read (actions.Event r)) (MEMORY_BYTES + t)
+      else Rattle.pg_law_course.specs.pg_law_effects.Views.is_thread (Rattle.pg_law_course.specs.pg_law_effects.Effect.word_asked w.thread r) (MEMORY_BYTES + t - MEMORY_BYTES)) (behind t)
+      ∙ ap (λ o. Rattle.pg_law_course.specs.pg_law_effects.Views.is_thread o (MEMORY_BYTES + t - MEMORY_BYTES)) asked ∙ eq-eqb t (MEMORY_BYTES + t - MEMORY_BYTES) (sym (at_word t))
 
   is_event : (r : Request) → action_of w l ≡ actions.Event r → deeds.is_event d ≡ true
   is_event r e = step.event ∙ ap (is_event_at w.run.schedule.gated (id_of l)) e
@@ -246,7 +246,7 @@ module _ (w : Standing) (k : ℕ) (l : LocalState) (d : Did) (h : StandsBefore w
   writes_word action t n e left =
       step.writes (MEMORY_BYTES + t)
       ∙ ap (λ a. Rattle.pg_law_course.specs.Steps.writes_by (run_cells w k) w.thread made a (MEMORY_BYTES + t)) e
-      ∙ ap (λ b. if b then Rattle.pg_law_effects.specs.Meets.byte_in (Rattle.pg_law_course.specs.Steps.write_by (run_cells w k) made action) (MEMORY_BYTES + t)
+      ∙ ap (λ b. if b then Rattle.pg_law_course.specs.pg_law_effects.Meets.byte_in (Rattle.pg_law_course.specs.Steps.write_by (run_cells w k) made action) (MEMORY_BYTES + t)
       else Rattle.pg_law_course.specs.Steps.word_by w.thread made action (MEMORY_BYTES + t - MEMORY_BYTES)) (behind t)
       ∙ ap (Rattle.pg_law_course.specs.Steps.word_by w.thread made action) (at_word t) ∙ left
 

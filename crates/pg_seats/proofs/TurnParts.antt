@@ -5,10 +5,10 @@ use Rattle.std.proofs.lemmas.Bool.{cases_lt, cases_eq, and_parts, eqb-true, eq-e
 use mathlib.Core.Option.{some}
 use lib.ListN.{get_elem?}
 use Rattle.atomic_table.specs.Table.{keeps}
-use Rattle.pg_num.specs.declared.layout.TheConstants.{MEMORY_BYTES}
-use Rattle.pg_num.specs.declared.limits.TheConstants.{THREAD_LIMIT}
-use Rattle.pg_run_memory.specs.declared.delta.Delta.TheVariants.{Add}
-use Rattle.pg_law_threads.specs.Effects.{or_old}
+use Rattle.pg_law_course.specs.pg_num.declared.layout.TheConstants.{MEMORY_BYTES}
+use Rattle.pg_law_course.specs.pg_num.declared.limits.TheConstants.{THREAD_LIMIT}
+use Rattle.pg_law_course.specs.pg_run_memory.declared.delta.Delta.TheVariants.{Add}
+use Rattle.pg_law_course.specs.pg_law_threads.Effects.{or_old}
 use Rattle.pg_words.specs.Calls.{AllowsChange, AllowsLoad, AllowsStore, thread_word}
 use Rattle.pg_words.specs.declared.layout.TheConstants.{THREAD_WORDS, TURN_WORD}
 use Rattle.pg_seats.specs.declared.run.Standing.{Standing}

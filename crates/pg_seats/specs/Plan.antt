@@ -1,12 +1,12 @@
 -- The run that a view holds: its shared steps as a plan, and the cells as its threads find them.
 use Rattle.std.specs.Prelude.{ℕ, ℤ, ◌<◌, ◌^◌, List, [], length}
-use Rattle.pg_ir.specs.Program.{NumberedProgram}
-use Rattle.pg_law_threads.specs.Effects.{effects}
-use Rattle.pg_law_threads.specs.Intervals.{Timed}
-use Rattle.pg_run_trace.specs.declared.schedule.Schedule.{Schedule}
-use Rattle.pg_law_runs.specs.Cuts.{CanRun}
-use Rattle.pg_law_runs.specs.Deeds.{Did, Seen, owners_of}
-use Rattle.pg_law_order.specs.Good.{IsGoodRun}
+use Rattle.pg_law_course.specs.pg_ir.Program.{NumberedProgram}
+use Rattle.pg_law_course.specs.pg_law_threads.Effects.{effects}
+use Rattle.pg_law_course.specs.pg_law_threads.Intervals.{Timed}
+use Rattle.pg_law_course.specs.pg_run_trace.declared.schedule.Schedule.{Schedule}
+use Rattle.pg_law_course.specs.pg_law_runs.Cuts.{CanRun}
+use Rattle.pg_law_course.specs.pg_law_runs.Deeds.{Did, Seen, owners_of}
+use Rattle.pg_law_course.specs.pg_law_order.Good.{IsGoodRun}
 use Rattle.pg_law_course.specs.Plan as plans
 pub use Rattle.pg_law_course.specs.Course.{before}
 use Rattle.pg_seats.specs.declared.run.Run.{Run}

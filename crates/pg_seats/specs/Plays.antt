@@ -1,7 +1,7 @@
 -- What each kind of step tells its seat: what it makes of the view, and what the word that was found has to do with the run.
 use Rattle.std.specs.Prelude.{◌≡◌, ◌-◌, ◌≤◌, ◌⊎◌, ℕ, true}
 use Rattle.atomic_table.specs.Table.{Me, Step}
-use Rattle.pg_num.specs.Places.{ByteRange}
+use Rattle.pg_law_course.specs.pg_num.Places.{ByteRange}
 use Rattle.pg_words.specs.Calls.{NoSlot, number_at, thread_word}
 use Rattle.pg_words.specs.declared.layout.TheConstants.{GRANULE_WORDS}
 use Rattle.pg_seats.specs.declared.run.View.{View}

@@ -4,14 +4,14 @@ use Rattle.std.specs.Prelude.{◌≡◌, ℕ, ◌+◌, ◌-◌, ◌*◌, ◌/◌
 use mathlib.Core.Option.{some}
 use lib.ListN.{get_elem?}
 use Rattle.atomic_table.specs.Table.{State}
-use Rattle.pg_num.specs.declared.layout.TheConstants.{GRANULE_COUNT, MEMORY_BYTES}
-use Rattle.pg_num.specs.declared.limits.TheConstants.{THREAD_LIMIT}
-use Rattle.pg_run_memory.specs.Bytes.{byte_of}
-use Rattle.pg_run_memory.specs.Initial.{initial_byte}
-use Rattle.pg_law_threads.specs.Effects.{deeds, or_old}
-use Rattle.pg_law_threads.specs.Intervals.{Timed, turns_done}
-use Rattle.pg_law_threads.specs.Standing.{Stands, done_of, left_by}
-use Rattle.pg_law_runs.specs.Deeds.{Did}
+use Rattle.pg_law_course.specs.pg_num.declared.layout.TheConstants.{GRANULE_COUNT, MEMORY_BYTES}
+use Rattle.pg_law_course.specs.pg_num.declared.limits.TheConstants.{THREAD_LIMIT}
+use Rattle.pg_law_course.specs.pg_run_memory.Bytes.{byte_of}
+use Rattle.pg_law_course.specs.pg_run_memory.Initial.{initial_byte}
+use Rattle.pg_law_course.specs.pg_law_threads.Effects.{deeds, or_old}
+use Rattle.pg_law_course.specs.pg_law_threads.Intervals.{Timed, turns_done}
+use Rattle.pg_law_course.specs.pg_law_threads.Standing.{Stands, done_of, left_by}
+use Rattle.pg_law_course.specs.pg_law_runs.Deeds.{Did}
 use Rattle.pg_words.specs.Calls.{NoSlot}
 use Rattle.pg_words.specs.declared.layout.TheConstants.{GRANULE_WORDS, THREAD_WORDS, TURN_WORD, WORD_COUNT}
 use Rattle.pg_seats.specs.declared.run.Run.{Run}

@@ -1,12 +1,12 @@
 -- Where a seat stands in the course of its thread.
 use Rattle.std.specs.Prelude.{◌≡◌, ℕ, ◌+◌, Bool, true, false, Some, slice_get}
-use Rattle.pg_ir.specs.declared.request.Request.TheVariants as requests
-use Rattle.pg_run_thread.specs.declared.action.Action.{Action}
-use Rattle.pg_run_thread.specs.declared.action.Action.TheVariants as actions
-use Rattle.pg_run_thread.specs.LocalState.{LocalState}
-use Rattle.pg_run_thread.specs.Step.{next}
-use Rattle.pg_run_trace.specs.Kinds.{kind_of}
-use Rattle.pg_law_runs.specs.Deeds.{Did}
+use Rattle.pg_law_course.specs.pg_ir.declared.request.Request.TheVariants as requests
+use Rattle.pg_law_course.specs.pg_run_thread.declared.action.Action.{Action}
+use Rattle.pg_law_course.specs.pg_run_thread.declared.action.Action.TheVariants as actions
+use Rattle.pg_law_course.specs.pg_run_thread.LocalState.{LocalState}
+use Rattle.pg_law_course.specs.pg_run_thread.Step.{next}
+use Rattle.pg_law_course.specs.pg_run_trace.Kinds.{kind_of}
+use Rattle.pg_law_course.specs.pg_law_runs.Deeds.{Did}
 use Rattle.pg_law_course.specs.Course as courses
 use Rattle.pg_seats.specs.declared.run.Standing.{Standing}
 use Rattle.pg_seats.specs.Plan.{IsEnforced}

@@ -1,20 +1,20 @@
 -- What a view says of the run that it holds: the next shared step of its thread, what its seat may do, and what each step makes of it.
 use Rattle.std.specs.Prelude.{◌≡◌, ℕ, suc, ◌+◌, ◌*◌, ◌<◌, ◌≤◌, ◌==◌, ◌&&◌, not, nat_lt, max, Bool, true, false, Option, Some, None, is_some, slice_get, if◌then◌else◌, ⊤, ◌/◌}
-use Rattle.pg_num.specs.Places.{ByteRange}
+use Rattle.pg_law_course.specs.pg_num.Places.{ByteRange}
 use Rattle.std.specs.List.{AllByRecursion}
-use Rattle.pg_num.specs.declared.layout.TheConstants.{GRANULE_COUNT, MEMORY_BYTES}
-use Rattle.pg_num.specs.declared.limits.TheConstants.{THREAD_LIMIT}
-use Rattle.pg_run_memory.specs.Bytes.{byte_of, number_of}
-use Rattle.pg_run_memory.specs.Initial.{initial_byte}
-use Rattle.pg_law_threads.specs.Effects.{deeds}
-use Rattle.pg_law_threads.specs.Intervals.{Timed, turns_done}
-use Rattle.pg_run_trace.specs.declared.step.Access.{Access}
-use Rattle.pg_run_trace.specs.declared.step.StepKind.{StepKind}
-use Rattle.pg_run_trace.specs.declared.step.StepKind.TheVariants as kinds
-use Rattle.pg_run_trace.specs.declared.turn.TurnKind.{TurnKind}
-use Rattle.pg_run_trace.specs.declared.turn.TurnKind.TheVariants as turns
-use Rattle.pg_run_trace.specs.Steps.{access_of, range_of}
-use Rattle.pg_law_runs.specs.Deeds.{Did}
+use Rattle.pg_law_course.specs.pg_num.declared.layout.TheConstants.{GRANULE_COUNT, MEMORY_BYTES}
+use Rattle.pg_law_course.specs.pg_num.declared.limits.TheConstants.{THREAD_LIMIT}
+use Rattle.pg_law_course.specs.pg_run_memory.Bytes.{byte_of, number_of}
+use Rattle.pg_law_course.specs.pg_run_memory.Initial.{initial_byte}
+use Rattle.pg_law_course.specs.pg_law_threads.Effects.{deeds}
+use Rattle.pg_law_course.specs.pg_law_threads.Intervals.{Timed, turns_done}
+use Rattle.pg_law_course.specs.pg_run_trace.declared.step.Access.{Access}
+use Rattle.pg_law_course.specs.pg_run_trace.declared.step.StepKind.{StepKind}
+use Rattle.pg_law_course.specs.pg_run_trace.declared.step.StepKind.TheVariants as kinds
+use Rattle.pg_law_course.specs.pg_run_trace.declared.turn.TurnKind.{TurnKind}
+use Rattle.pg_law_course.specs.pg_run_trace.declared.turn.TurnKind.TheVariants as turns
+use Rattle.pg_law_course.specs.pg_run_trace.Steps.{access_of, range_of}
+use Rattle.pg_law_course.specs.pg_law_runs.Deeds.{Did}
 use Rattle.pg_seats.specs.declared.run.Run.{Run}
 use Rattle.pg_seats.specs.declared.run.Standing.{Standing}
 use Rattle.pg_seats.specs.declared.run.View.{View}

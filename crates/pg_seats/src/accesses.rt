@@ -4,7 +4,7 @@ ghost use Rattle.std.specs.Prelude.{◌≡◌, ◌*◌, ◌<◌, ◌^◌, true};
 ghost use Rattle.pg_seats.specs.Views.{may_load, may_put, may_read, may_store, number_there, went_on, with_part};
 
 use crate::rule::{Finds, Loads, Place, Puts, Reads, RunWords, Stores};
-use pg_num::Place as Range;
+use pg_law_course::pg_num::Place as Range;
 
 /// The next shared step of the thread, a plain load: gives the number that the run has there.
 #[tactic(auto, using(crate::proofs::Loads::loads))]

@@ -6,9 +6,9 @@ ghost use Rattle.pg_seats.specs.Views.{MayLay, MayOpen, epoch_of, laid, may_begi
 ghost use Rattle.pg_seats.specs.declared.run.View.TheVariants.{Idle, Laying};
 
 use crate::rule::{Begins, Lays, Named, Opens, Place, RunWords};
-use pg_ir::Program;
-use pg_num::Place as Range;
-use pg_run_trace::Schedule;
+use pg_law_course::pg_ir::Program;
+use pg_law_course::pg_num::Place as Range;
+use pg_law_course::pg_run_trace::Schedule;
 use std::alloc::{AllocError, Global};
 use std::marker::Brand;
 

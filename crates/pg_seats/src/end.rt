@@ -1,13 +1,13 @@
 //! The end of a run: the seats of its threads are taken back, and the words that it wrote become 0 again, so that they serve the next.
 
 ghost use Rattle.std.specs.Prelude.{◌≡◌, ◌<◌, ◌/◌, [], true};
-ghost use Rattle.pg_num.specs.declared.limits.TheConstants.{THREAD_LIMIT};
+ghost use Rattle.pg_law_course.specs.pg_num.declared.limits.TheConstants.{THREAD_LIMIT};
 ghost use Rattle.pg_words.specs.Calls.{granule_word, thread_word};
 ghost use Rattle.pg_seats.specs.Views.{MayRest, MayWipe, closed, gathered, may_clear, may_close, may_gather, rested, swept};
 
 use crate::rule::{Closes, Gathers, Place, Rests, RunWords, Wipes};
-use pg_ir::ThreadNo;
-use pg_num::Place as Range;
+use pg_law_course::pg_ir::ThreadNo;
+use pg_law_course::pg_num::Place as Range;
 
 /// Takes back the seat of the first thread that has one.
 #[tactic(auto, using(crate::proofs::SeatSteps::gathers))]

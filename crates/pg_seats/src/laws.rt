@@ -3,10 +3,10 @@
 ghost use Rattle.std.specs.Prelude.{◌≡◌, ℕ, List, Some, false, true};
 ghost use mathlib.Core.Option.{some};
 ghost use lib.ListN.{get_elem?};
-ghost use Rattle.pg_law_threads.specs.Effects.{deeds};
-ghost use Rattle.pg_law_threads.specs.Intervals.{Timed};
-ghost use Rattle.pg_law_threads.specs.Steps.{touches};
-ghost use Rattle.pg_law_runs.specs.Deeds.{Did};
+ghost use Rattle.pg_law_course.specs.pg_law_threads.Effects.{deeds};
+ghost use Rattle.pg_law_course.specs.pg_law_threads.Intervals.{Timed};
+ghost use Rattle.pg_law_course.specs.pg_law_threads.Steps.{touches};
+ghost use Rattle.pg_law_course.specs.pg_law_runs.Deeds.{Did};
 ghost use Rattle.pg_seats.specs.Plan.{cells_there};
 ghost use Rattle.pg_seats.specs.Rule.{Keeps, cell_in};
 ghost use Rattle.pg_seats.specs.Views.{IsCell, is_put, next_of};

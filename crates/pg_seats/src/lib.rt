@@ -13,4 +13,5 @@ pub mod seats;
 pub mod steps;
 pub mod turns;
 
+pub use pg_law_course::{pg_ir, pg_num, pg_run, pg_run_thread, pg_run_trace};
 pub use rule::{Place, RunWords};

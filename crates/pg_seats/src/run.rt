@@ -1,7 +1,7 @@
 //! A run as plain data, and what a seat knows of it. No value of these is ever made.
 
-use pg_ir::Program;
-use pg_run_trace::Schedule;
+use pg_law_course::pg_ir::Program;
+use pg_law_course::pg_run_trace::Schedule;
 use std::collections::LinkedList;
 
 /// A run along a schedule: what the full guided run is computed from; and which of the runs on these words it is, counted from 0.

@@ -2,12 +2,12 @@
 //! finds is what the full guided run has. Each law is the clause of a function that does nothing.
 
 ghost use Rattle.std.specs.Prelude.{◌≡◌, ℕ, Bool, Some, None, false, true};
-ghost use Rattle.pg_num.specs.Places.{ByteRange};
-ghost use Rattle.pg_law_threads.specs.Effects.{deeds};
-ghost use Rattle.pg_law_threads.specs.Intervals.{timed};
-ghost use Rattle.pg_run_thread.specs.LocalState.{LocalState};
-ghost use Rattle.pg_run_trace.specs.Steps.{event_of};
-ghost use Rattle.pg_law_runs.specs.Deeds.{Did};
+ghost use Rattle.pg_law_course.specs.pg_num.Places.{ByteRange};
+ghost use Rattle.pg_law_course.specs.pg_law_threads.Effects.{deeds};
+ghost use Rattle.pg_law_course.specs.pg_law_threads.Intervals.{timed};
+ghost use Rattle.pg_law_course.specs.pg_run_thread.LocalState.{LocalState};
+ghost use Rattle.pg_law_course.specs.pg_run_trace.Steps.{event_of};
+ghost use Rattle.pg_law_course.specs.pg_law_runs.Deeds.{Did};
 ghost use Rattle.pg_law_course.specs.Plan.{is_shared};
 ghost use Rattle.pg_law_course.specs.Steps.{made_by, number_in, word_in};
 ghost use Rattle.pg_seats.specs.Plan.{cells_there, turns_in};
@@ -16,8 +16,8 @@ ghost use Rattle.pg_seats.specs.Views.{is_due, may_advance, may_hear, may_load, 
 ghost use Rattle.pg_seats.specs.declared.run.Standing.{Standing};
 ghost use Rattle.pg_seats.specs.declared.run.View.TheVariants.{Worker};
 
-use pg_ir::Request;
-use pg_run_thread::Action;
+use pg_law_course::pg_ir::Request;
+use pg_law_course::pg_run_thread::Action;
 
 /// The next shared step of a seat is that of its thread, an event is due where its turns are done, and the seat finds the numbers and
 /// words that the thread finds in the run.

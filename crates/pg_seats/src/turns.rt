@@ -1,11 +1,11 @@
 //! Turns: the read of the turn word, the words of threads that a turn leaves or reads, and the end of a turn.
 
 ghost use Rattle.std.specs.Prelude.{◌≡◌, ◌<◌, ◌≤◌, ℕ, true};
-ghost use Rattle.pg_num.specs.declared.limits.TheConstants.{THREAD_LIMIT};
+ghost use Rattle.pg_law_course.specs.pg_num.declared.limits.TheConstants.{THREAD_LIMIT};
 ghost use Rattle.pg_seats.specs.Views.{IsAhead, IsNow, advanced, looked, may_advance, may_hear, may_look, may_say, seen_of, with_part, word_there};
 
 use crate::rule::{Advances, Hears, Looks, Place, Puts, RunWords};
-use pg_ir::ThreadNo;
+use pg_law_course::pg_ir::ThreadNo;
 
 /// The number of turns that are done: no less than the seat knew of, no more than the run has, and no more than those before the
 /// thread's next turn.

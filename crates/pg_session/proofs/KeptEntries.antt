@@ -5,7 +5,7 @@ use Rattle.std.specs.Prelude.{nat_lt, slice_get, All, OnErr, Result, Ok, Err}
 use Rattle.pg_cache.specs.Kept.{Kept, first_from, oldest, value_of, with_value}
 use Rattle.std.proofs.lemmas.List.Elements.{All-drop, All-head, All-nil, All-push, All-tail}
 use Rattle.pg_session.specs.Progress.{Stands}
-use Rattle.pg_session.specs.Sessions.{Answer, Answers, AnswersAll, AnswersLine, IsEntryOf, IsExact, Runs, begin, by_recording, by_refusal, by_reuse, found, of_recording}
+use Rattle.pg_session.specs.Sessions.{Answer, Answers, AnswersAll, AnswersLine, IsEntryOf, IsExact, Runs, begin, by_recording, by_refusal, by_reuse, by_untested, found, of_recording}
 
 -- a number that is found is that of a value, whose answer is true
 pub record IsAt {X : Type 0} (test : X → Bool) (xs : List X) (from k : ℕ) : Type 0 where
@@ -82,6 +82,7 @@ stands_after admits runs kept next input answer (by_reuse h) s = subst (Stands r
 stands_after admits runs kept next input answer (by_recording h) s =
     subst (Stands runs) (sym h.grows) (stands_with runs kept h.entry s (of_recording (record { input = input; output = answer.output; end = h.end; recording = h.recording })))
 stands_after admits runs kept next input answer (by_refusal h) s = subst (Stands runs) (sym h.stays) s
+stands_after admits runs kept next input answer (by_untested h) s = subst (Stands runs) (sym h.stays) s
 
 pub stands_line : {M : Type 0} (admits : M → List ℤ → Bool) (runs : Runs M) (kept next : Kept M) (input : Option (List ℤ)) (answer : Answer)
     → AnswersLine admits runs kept input answer next → Stands runs kept → Stands runs next
@@ -101,6 +102,7 @@ grows_line admits runs kept next None answer h = let e = ap (λ (k : Kept _). k.
 grows_line admits runs kept next (Some input) answer (by_reuse h) = let e = ap (λ (k : Kept _). k.inserted) h.stays in omega (arith, e)
 grows_line admits runs kept next (Some input) answer (by_recording h) = let e = ap (λ (k : Kept _). k.inserted) h.grows in omega (arith, e)
 grows_line admits runs kept next (Some input) answer (by_refusal h) = let e = ap (λ (k : Kept _). k.inserted) h.stays in omega (arith, e)
+grows_line admits runs kept next (Some input) answer (by_untested h) = let e = ap (λ (k : Kept _). k.inserted) h.stays in omega (arith, e)
 
 pub grows_all : {M : Type 0} (admits : M → List ℤ → Bool) (runs : Runs M) (kept last : Kept M) (inputs : List (Option (List ℤ))) (answers : List Answer)
     → AnswersAll admits runs kept inputs answers last → last.inserted ≤ kept.inserted + length inputs

@@ -2,7 +2,7 @@
 use Rattle.std.specs.Prelude.{ℕ, ℤ, ◌+◌, ◌-◌, ◌^◌, ◌≤◌, ◌⊎◌, Bool, true, false, if◌then◌else◌, List, Option, count_by}
 use Rattle.std.specs.List.{sum_by}
 use Rattle.pg_session_texts.specs.declared.reply.ReplyKind.{ReplyKind}
-use Rattle.pg_session_texts.specs.declared.reply.ReplyKind.TheVariants.{Reused, RefusedLine}
+use Rattle.pg_session_texts.specs.declared.reply.ReplyKind.TheVariants.{Reused, RefusedLine, RefusedUntested}
 use Rattle.pg_cache.specs.Kept.{Kept}
 use Rattle.pg_session.specs.Sessions.{Answer, Runs}
 use Rattle.pg_session.specs.Texts.{KeepsAll, ServesAll}
@@ -32,6 +32,7 @@ reused_turns a = if is_reused a.kind then turns_of a.end else 0
 abbrev pub is_of_recording : ReplyKind → Bool
 is_of_recording (Reused entry) = false
 is_of_recording RefusedLine = false
+is_of_recording RefusedUntested = false
 is_of_recording _ = true
 
 -- the counts rose by what these answers took

@@ -3,10 +3,10 @@ use Rattle.std.specs.Prelude.{◌≡◌, ℕ, ℤ, Bool, List, [], ◌∷◌, fl
 use Rattle.pg_cache.specs.Kept.{Kept, first_from, oldest, value_of, with_value}
 use Rattle.pg_num.specs.declared.limits.TheConstants.{CACHE_LIMIT}
 use Rattle.pg_session_texts.specs.declared.reply.ReplyKind.{ReplyKind}
-use Rattle.pg_session_texts.specs.declared.reply.ReplyKind.TheVariants.{Recorded, Reused, RefusedLine}
+use Rattle.pg_session_texts.specs.declared.reply.ReplyKind.TheVariants.{Recorded, Reused, RefusedLine, RefusedUntested}
 use Rattle.pg_session_texts.specs.declared.reply.EndLine.{EndLine}
 use Rattle.pg_session_texts.specs.Replies.{kind_of, reply_text}
-use Rattle.pg_run.specs.declared.outcome.Refusal.{Refusal}
+use Rattle.pg_session_texts.specs.pg_run.declared.outcome.Refusal.{Refusal}
 
 -- what a session asks of the runs of a program. M is the type of entries
 pub record Runs (M : Type 0) : Type 1 where
@@ -14,6 +14,8 @@ pub record Runs (M : Type 0) : Type 1 where
   pub recorded : List ℤ → M → List ℕ → EndLine → Type 0
   -- recording this input gives no entry, for this reason, and prints this
   pub refused : List ℤ → Refusal → List ℕ → Type 0
+  -- nothing is recorded of this input
+  pub untested : List ℤ → Type 0
   -- the run along the entry's schedule on this input prints this and ends so
   pub along : M → List ℤ → List ℕ → EndLine → Type 0
   -- this entry is one of turns that were given
@@ -65,11 +67,21 @@ pub record IsRefused {M : Type 0} (admits : M → List ℤ → Bool) (runs : Run
   pub ends : answer.end ≡ None
   pub stays : next ≡ kept
 
+-- no entry admits the input, and nothing is recorded of it: the entries stay
+pub record IsUntested {M : Type 0} (admits : M → List ℤ → Bool) (runs : Runs M) (kept : Kept M) (input : List ℤ) (answer : Answer) (next : Kept M) : Type 0 where
+  pub none : found admits kept input ≡ None
+  pub untested : runs.untested input
+  pub kind : answer.kind ≡ RefusedUntested
+  pub prints : answer.output ≡ []
+  pub ends : answer.end ≡ None
+  pub stays : next ≡ kept
+
 -- what is answered to an input, from what is kept, and what is kept then
 pub data Answers {M : Type 0} (admits : M → List ℤ → Bool) (runs : Runs M) (kept : Kept M) (input : List ℤ) (answer : Answer) (next : Kept M) : Type 0 where
   by_reuse : IsReused admits runs kept input answer next → Answers admits runs kept input answer next
   by_recording : IsKeptRecording admits runs kept input answer next → Answers admits runs kept input answer next
   by_refusal : IsRefused admits runs kept input answer next → Answers admits runs kept input answer next
+  by_untested : IsUntested admits runs kept input answer next → Answers admits runs kept input answer next
 
 abbrev pub refused_line : Answer
 refused_line = record { kind = RefusedLine; output = []; end = None }

@@ -3,7 +3,7 @@ use Rattle.std.specs.Prelude.{◌≡◌, ℕ, ℤ, List, None}
 use Rattle.pg_session_texts.specs.declared.reply.EndLine.{EndLine}
 use Rattle.pg_session_texts.specs.Replies.{kind_of, reply_text}
 use Rattle.pg_session.specs.Sessions.{Runs}
-use Rattle.pg_run.specs.declared.outcome.Refusal.{Refusal}
+use Rattle.pg_session_texts.specs.pg_run.declared.outcome.Refusal.{Refusal}
 
 -- a recording gives an entry: what is shown of it, with what the run along its schedule printed and how that ended
 pub record ShowsEntry {M : Type 0} (runs : Runs M) (shown : M → List ℕ → EndLine → List ℕ) (input : List ℤ) (text : List ℕ) : Type 0 where

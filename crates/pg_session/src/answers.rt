@@ -50,7 +50,7 @@ fn reused<H: Threads + Sync, R: Runner>(
     })
 }
 
-/// The answer by a recording, where no entry admits the input.
+/// The answer by a recording, or that there is none, where no entry admits the input.
 fn recorded<H: Threads + Wait + Sync, R: Runner>(
     rt: &H,
     alloc: Global,
@@ -80,6 +80,11 @@ fn recorded<H: Threads + Wait + Sync, R: Runner>(
         Recording::Refused(refusal, output) => Ok(Answer {
             kind: ReplyKind::from(refusal),
             output,
+            end: None,
+        }),
+        Recording::Untested => Ok(Answer {
+            kind: ReplyKind::RefusedUntested,
+            output: Vec::new(alloc),
             end: None,
         }),
     }

@@ -50,7 +50,9 @@ pub fn kept_by<H: Threads + Wait + Sync, R: Runner, S: Source>(
     requires few { first.inserted ≤ CACHE_LIMIT }
     ensures done { IfOk result (λ c. HasBytes (S.rest src.old) (KeepsCounted (admits_by R.Entry.meaning R.Entry.test) (R.runs (R.subject runner.old)) first c (R.counts runner.old) (R.counts runner.new))) }
     ensures no_write { IsErrOf result ServeFault.WriteFault → ⊥ }
+    ensures input_limit { IsErrOf result ServeFault.InputLimit → HasBytes (S.rest src.old) (λ input. SESSION_INPUT_LIMIT < length input) }
     ensures read_cause { IsErrOf result ServeFault.ReadFault → Rose (S.faults src.old) (S.faults src.new) }
+    ensures read_fault_within { IsErrOf result ServeFault.ReadFault → TakesAtMost (S.rest src.old) (S.rest src.new) SESSION_INPUT_LIMIT }
     ensures read_count { IsErrOf result ServeFault.ReadFault ⊎ (S.faults src.new ≡ S.faults src.old) }
     ensures takes { TakesAtMost (S.rest src.old) (S.rest src.new) (SESSION_INPUT_LIMIT + 1) }
     ensures stays { R.subject runner.new ≡ R.subject runner.old }

@@ -1,15 +1,15 @@
 //! What a session asks of a program.
-ghost use Rattle.std.specs.Prelude.{◌≡◌, ◌≤◌, true, length, Some, IfOk, OnOk};
+ghost use Rattle.std.specs.Prelude.{◌≡◌, ◌≤◌, true, length, Some, IfOk};
 ghost use denote.Param.Send.{IsSync};
 ghost use Rattle.pg_num.specs.declared.limits.TheConstants.{NUMBERS_LIMIT};
 ghost use Rattle.pg_session.specs.Counts.{Counted, Counts};
 ghost use Rattle.pg_session.specs.Sessions.{Runs, IsEntryOf};
 ghost use Rattle.pg_session.specs.Trials.{turns_of};
-ghost use Rattle.pg_session.specs.Recordings.{ComesOfRecording};
+ghost use Rattle.pg_session.specs.Recordings.{ComesOfRecording, recordings_of};
 
 use pg_cache::Admits;
-use pg_run::Refusal;
 use pg_session_texts::EndLine;
+use pg_session_texts::pg_run::Refusal;
 use std::alloc::{AllocError, Global};
 use std::sync::Wait;
 use std::thread::Threads;
@@ -28,6 +28,8 @@ pub enum Recording<E: Drop> {
     Kept(E, Run),
     /// No entry, and what was printed.
     Refused(Refusal, Vec<u8>),
+    /// Nothing was recorded.
+    Untested,
 }
 
 /// Records the runs of a program, and runs it along schedules.
@@ -47,7 +49,7 @@ pub trait Runner {
     // greatest `u64`.
     ghost counts: { Self → Counts };
 
-    /// Records a run on an input.
+    /// Records a run on an input, where this runner records any.
     fn record<H: Threads + Wait + Sync>(
         &mut self,
         rt: &H,
@@ -58,7 +60,7 @@ pub trait Runner {
         requires few { length input.now ≤ NUMBERS_LIMIT }
         ensures gives { IfOk result (ComesOfRecording (runs (subject self.old)) input.now) }
         ensures counts_stay { Counted 0 0 (counts self.old) (counts self.new) }
-        ensures counts { OnOk result (Counted 0 1 (counts self.old) (counts self.new)) }
+        ensures counts { IfOk result (λ r. Counted 0 (recordings_of r) (counts self.old) (counts self.new)) }
         ensures stays { subject self.new ≡ subject self.old };
 
     /// Runs along the schedule of an entry of the same program, which admits the input.

@@ -87,12 +87,13 @@ fn with_kind(counts: Counts, kind: ReplyKind) -> Counts
             reused: counts.reused + 1,
             ..counts
         },
-        ReplyKind::RefusedLine | ReplyKind::RefusedTrap(_, _) | ReplyKind::RefusedBudget => {
-            Counts {
-                refused: counts.refused + 1,
-                ..counts
-            }
-        }
+        ReplyKind::RefusedLine
+        | ReplyKind::RefusedTrap(_, _)
+        | ReplyKind::RefusedBudget
+        | ReplyKind::RefusedUntested => Counts {
+            refused: counts.refused + 1,
+            ..counts
+        },
     }
 }
 

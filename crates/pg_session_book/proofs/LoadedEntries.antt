@@ -2,13 +2,13 @@
 use Rattle.std.proofs.Common.{◌≡◌, ◌≤◌, ◌<◌, ◌+◌, ◌-◌, ℕ, zero, suc, List, [], ◌∷◌, ◌++◌, length, map, take, drop, get_or, Some, refl, sym, ap, subst, ◌∙◌, arith}
 use Rattle.std.specs.Prelude.{slice_get}
 use Rattle.std.proofs.lemmas.List.{length-append, map-append, take_more}
-use Rattle.pg_num.specs.declared.limits.TheConstants.{CACHE_LIMIT}
-use Rattle.pg_ir.specs.Program.{NumberedProgram}
+use Rattle.pg_session_runner.specs.pg_num.declared.limits.TheConstants.{CACHE_LIMIT}
+use Rattle.pg_session_runner.specs.pg_ir.Program.{NumberedProgram}
 use Rattle.pg_book.specs.Parts.{BookEntryParts, parts_of}
 use Rattle.pg_book.specs.declared.book.BookEntry.{BookEntry}
-use Rattle.pg_cache.specs.Kept.{Kept, with_value}
-use Rattle.pg_session.specs.Sessions.{opened}
-use Rattle.pg_session_entry.specs.Entries.{EntryParts}
+use Rattle.pg_session_runner.specs.pg_cache.Kept.{Kept, with_value}
+use Rattle.pg_session_runner.specs.pg_session.Sessions.{opened}
+use Rattle.pg_session_runner.specs.Entries.{EntryParts}
 use Rattle.pg_session_runner.specs.declared.loading.LoadFault.{LoadFault}
 use Rattle.pg_session_book.specs.LoadedBooks.{AreLoaded, IsFirstRefused, IsLoaded, IsWhyNot}
 

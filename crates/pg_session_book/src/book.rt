@@ -1,19 +1,17 @@
 //! Loading: each entry of a book is derived anew from its input and turns.
 ghost use Rattle.std.specs.Prelude.{◌≡◌, ◌≤◌, List, length, IfErr, IfOk};
-ghost use Rattle.pg_ir.specs.Program.{NumberedProgram};
+ghost use Rattle.pg_session_runner.specs.pg_ir.Program.{NumberedProgram};
 ghost use Rattle.pg_book.specs.Parts.{BookEntryParts, parts_in, parts_of};
-ghost use Rattle.pg_session.specs.Sessions.{opened};
+ghost use Rattle.pg_session_runner.specs.pg_session.Sessions.{opened};
 ghost use Rattle.pg_session_book.specs.LoadedBooks.{AreLoaded, IsFirstRefused, IsLoaded, IsLoadRefusal, IsWhyNot};
-ghost use Rattle.pg_num.specs.declared.limits.TheConstants.{CACHE_LIMIT};
+ghost use Rattle.pg_session_runner.specs.pg_num.declared.limits.TheConstants.{CACHE_LIMIT};
 ghost use Rattle.pg_session_book.specs.declared.book.LoadRefusal.TheVariants.{OutOfMemory};
 
 use pg_book::{Book, BookEntry};
-use pg_cache::Cache;
-use pg_ir::Program;
-use pg_law_order::can_run;
-use pg_num::limits::CACHE_LIMIT;
-use pg_session_entry::{Entry, FromFault};
-use pg_session_runner::{LoadFault, load_turns};
+use pg_session_runner::pg_cache::Cache;
+use pg_session_runner::pg_ir::Program;
+use pg_session_runner::pg_num::limits::CACHE_LIMIT;
+use pg_session_runner::{Entry, FromFault, LoadFault, load_turns};
 use std::alloc::{AllocError, Global};
 
 /// Why what a book keeps are no entries of a program.
@@ -38,12 +36,10 @@ fn loaded(alloc: Global, p: &Program, kept: &BookEntry) -> Result<Entry, LoadFau
     ensures entry { IfOk result (IsLoaded p.now (parts_of kept.now)) }
     ensures fault { IfErr result (IsWhyNot p.now (parts_of kept.now)) }
 {
-    let input = kept.input.as_slice();
-    can_run(p, input);
     load_turns(
         alloc,
         p,
-        input,
+        kept.input.as_slice(),
         kept.turns.as_slice(),
         kept.gated.as_slice(),
     )
@@ -54,8 +50,11 @@ fn refusal_of(number: usize, fault: LoadFault) -> LoadRefusal
     ensures { (p : NumberedProgram) (bs : List BookEntryParts) → IsFirstRefused p bs number fault → IsLoadRefusal p bs result }
 {
     match fault {
-        LoadFault::Turns(FromFault::OutOfMemory) => LoadRefusal::OutOfMemory,
-        _ => LoadRefusal::Entry(number, fault),
+        LoadFault::Gate => LoadRefusal::Entry(number, fault),
+        LoadFault::Turns(why) => match why {
+            FromFault::OutOfMemory => LoadRefusal::OutOfMemory,
+            _ => LoadRefusal::Entry(number, fault),
+        },
     }
 }
 

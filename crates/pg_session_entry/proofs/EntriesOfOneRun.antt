@@ -11,7 +11,7 @@ use Rattle.pg_run_trace.specs.Races.{schedule_of}
 use Rattle.pg_run.specs.Follow.{Exits, following_of}
 use Rattle.pg_run.specs.State.{State, exit_value_of}
 use Rattle.pg_slice_rules.specs.Known.{Taken}
-use Rattle.pg_law_runs.specs.Cuts.{CanRun}
+use Rattle.pg_law_order.specs.pg_law_runs.Cuts.{CanRun}
 use Rattle.pg_law_reference.proofs.SlicesAdmitAlike.{admit_alike}
 use Rattle.pg_session_entry.specs.Entries.{AreAlike, EntryParts, IsEntry, IsSliced, decisions_of}
 

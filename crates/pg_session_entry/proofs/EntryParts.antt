@@ -18,7 +18,7 @@ use Rattle.pg_run.specs.Guided.{guided_of}
 use Rattle.pg_run.specs.Recordings.{EndsBy, IsRecording}
 use Rattle.pg_run.specs.Rotation.{RunResult}
 use Rattle.pg_run.specs.State.{State, exit_value_of}
-use Rattle.pg_law_runs.specs.LastTurns.{IsRecorded}
+use Rattle.pg_law_order.specs.pg_law_runs.LastTurns.{IsRecorded}
 use Rattle.pg_slice_rules.specs.Sets.{taken}
 use Rattle.pg_session_entry.specs.declared.recorded.Record.{Record}
 use Rattle.pg_session_entry.specs.Entries.{AreOfSet, IsSliced, ServesAlong}

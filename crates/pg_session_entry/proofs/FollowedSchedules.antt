@@ -14,8 +14,8 @@ use Rattle.pg_run.specs.Guided.{GuidedRun, guided_of}
 use Rattle.pg_run.specs.Permitted.{has_turn}
 use Rattle.pg_run.specs.Runs.{event_of}
 use Rattle.pg_run.specs.State.{State, exit_value_of}
-use Rattle.pg_law_effects.specs.PermittedSteps.{turns_behind}
-use Rattle.pg_law_runs.specs.LastTurns.{IsRecorded, until_last}
+use Rattle.pg_law_own_input.specs.pg_law_effects.PermittedSteps.{turns_behind}
+use Rattle.pg_law_order.specs.pg_law_runs.LastTurns.{IsRecorded, until_last}
 use Rattle.pg_law_order.specs.Schedules.{GuidesAs, along}
 
 not_more : (m n : ℕ) → n ≤ m → nat_lt m n ≡ false

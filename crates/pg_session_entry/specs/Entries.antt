@@ -19,8 +19,8 @@ use Rattle.pg_slice_rules.specs.Closed.{IsSlice, admits}
 use Rattle.pg_slice_rules.specs.Freeable.{Regions}
 use Rattle.pg_slice_rules.specs.Known.{Taken}
 use Rattle.pg_slice_rules.specs.Sets.{taken}
-use Rattle.pg_slice_decisions.specs.Marks.{members_from}
-use Rattle.pg_slice_replay.specs.OfRegions.{AreRegions}
+use Rattle.pg_slice.specs.pg_slice_decisions.Marks.{members_from}
+use Rattle.pg_law_reference.specs.pg_slice_replay.OfRegions.{AreRegions}
 use Rattle.pg_law_reference.specs.Given.{reference_of}
 
 -- ---- what an entry tells

@@ -5,8 +5,8 @@ use Rattle.pg_ir.specs.Program.{NumberedProgram}
 use Rattle.pg_region_accesses.specs.Accesses.{RootedList, is_gated}
 use Rattle.pg_region_summaries.specs.Summaries.{AreSummaries}
 use Rattle.pg_run_trace.specs.declared.step.Step.{Step}
-use Rattle.pg_slice_replay.specs.declared.run.ReferenceRun.{ReferenceRun}
-use Rattle.pg_slice_replay.specs.Kept.{step_count}
+use Rattle.pg_law_reference.specs.pg_slice_replay.declared.run.ReferenceRun.{ReferenceRun}
+use Rattle.pg_law_reference.specs.pg_slice_replay.Kept.{step_count}
 use Rattle.pg_law_reference.specs.Given.{EdgesStand}
 use Rattle.pg_law_reference.specs.Sliceable.{HasItsLandmarks}
 

@@ -12,8 +12,8 @@ ghost use Rattle.pg_run.specs.Follow.{Exits, following_of};
 ghost use Rattle.pg_run.specs.Guided.{guided_of};
 ghost use Rattle.pg_run.specs.State.{State, exit_value_of};
 ghost use Rattle.pg_slice_rules.specs.Known.{Taken};
-ghost use Rattle.pg_law_runs.specs.Cuts.{CanRun};
-ghost use Rattle.pg_law_runs.specs.LastTurns.{IsRecorded};
+ghost use Rattle.pg_law_order.specs.pg_law_runs.Cuts.{CanRun};
+ghost use Rattle.pg_law_order.specs.pg_law_runs.LastTurns.{IsRecorded};
 ghost use Rattle.pg_session_entry.specs.Entries.{AreAlike, EntryParts, IsEntry, IsSliced};
 
 use pg_law_order::permitted_runs::a_permitted_run_goes_on;

@@ -6,8 +6,8 @@ ghost use Rattle.pg_run.specs.Follow.{Exits, following_of};
 ghost use Rattle.pg_run.specs.Recordings.{IsRecording};
 ghost use Rattle.pg_run.specs.Rotation.{rotation_of};
 ghost use Rattle.pg_run.specs.State.{State};
-ghost use Rattle.pg_law_runs.specs.Cuts.{CanRun};
-ghost use Rattle.pg_law_runs.specs.LastTurns.{IsRecorded};
+ghost use Rattle.pg_law_order.specs.pg_law_runs.Cuts.{CanRun};
+ghost use Rattle.pg_law_order.specs.pg_law_runs.LastTurns.{IsRecorded};
 ghost use Rattle.pg_session_entry.specs.Entries.{IsEntry};
 ghost use Rattle.pg_session_entry.specs.Records.{IsPrinted, IsRecord, IsRecordOf};
 

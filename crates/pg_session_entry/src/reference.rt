@@ -2,7 +2,7 @@
 ghost use Rattle.std.specs.Prelude.{◌≡◌, ◌<◌, ℕ, ℤ, All, List, length, IfOk};
 ghost use Rattle.pg_ir.specs.declared.ids.InstrId.{InstrId as AnInstrId};
 ghost use Rattle.pg_run.specs.Follow.{Exits, following_of};
-ghost use Rattle.pg_law_runs.specs.Cuts.{CanRun};
+ghost use Rattle.pg_law_order.specs.pg_law_runs.Cuts.{CanRun};
 ghost use Rattle.pg_slice_rules.specs.Sets.{taken};
 ghost use Rattle.pg_law_reference.specs.Sliceable.{CanBeSliced};
 ghost use Rattle.pg_law_reference.specs.Listed.{AreListed};
@@ -14,13 +14,13 @@ use crate::ids::ids_of;
 use crate::laws::the_own_input_is_admitted;
 use pg_ir::{InstrId, Program};
 use pg_law_reference::laws::{exiting_runs_can_be_sliced, replays_have_edges};
+use pg_law_reference::pg_slice_replay::{ReferenceRun, reference};
 use pg_law_reference::{GivenRun, Slice};
 use pg_precondition::Scratch;
 use pg_region_summaries::summaries;
 use pg_run_trace::{Race, Schedule, Trace};
 use pg_schedule::{Turns, intervals};
 use pg_slice::slice;
-use pg_slice_replay::{ReferenceRun, reference};
 use std::alloc::{AllocError, Global};
 
 /// A run replayed.

@@ -5,7 +5,7 @@ ghost use Rattle.pg_ir.specs.declared.ids.InstrId.{InstrId as AnInstrId};
 ghost use Rattle.pg_run_trace.specs.declared.step.Step.{Step};
 ghost use Rattle.pg_run_trace.specs.Races.{first_unordered};
 ghost use Rattle.pg_run.specs.Follow.{Exits, followed_as, following_of};
-ghost use Rattle.pg_law_runs.specs.Cuts.{CanRun};
+ghost use Rattle.pg_law_order.specs.pg_law_runs.Cuts.{CanRun};
 ghost use Rattle.pg_law_reference.specs.Sliceable.{CanBeSliced};
 ghost use Rattle.pg_session_entry.specs.declared.turns.FromFault.TheVariants.{OutOfMemory};
 ghost use Rattle.pg_session_entry.specs.Entries.{IsEntryOfTurns};

@@ -1,5 +1,6 @@
 pub mod TurnCounts
 pub mod RoundCounts
+pub mod RunsByWorkers
 pub mod KeptInsertions
 pub mod ReusedEntries
 pub mod RecordedEntries
@@ -8,3 +9,6 @@ pub mod ReusedLines
 pub mod RecordedLines
 pub mod LoadedTurns
 pub mod OneText
+pub mod TestedSessions
+pub mod OneFault
+pub mod RecordedLimits

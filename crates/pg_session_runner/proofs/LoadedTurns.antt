@@ -2,9 +2,9 @@
 use Rattle.std.proofs.Common.{◌≡◌, ℕ, zero, suc, ◌<◌, ◌&&◌, Bool, true, false, List, [], ◌∷◌, length, All, refl, arith}
 use Rattle.std.specs.Prelude.{slice_get}
 use Rattle.std.proofs.lemmas.List.Elements.{All-cons, All-nil}
-use Rattle.pg_ir.specs.declared.ids.InstrId.{InstrId}
-use Rattle.pg_ir.specs.declared.instr.Instr.{Instr}
-use Rattle.pg_ir.specs.Program.{NumberedProgram}
+use Rattle.pg_go.specs.pg_ir.declared.ids.InstrId.{InstrId}
+use Rattle.pg_go.specs.pg_ir.declared.instr.Instr.{Instr}
+use Rattle.pg_go.specs.pg_ir.Program.{NumberedProgram}
 use Rattle.pg_session_runner.specs.Loading.{are_accesses, is_access_at, names_access}
 
 inside : (xs : List Instr) (k : ℕ) → is_access_at (slice_get xs k) ≡ true → k < length xs

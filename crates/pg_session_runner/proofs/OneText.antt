@@ -3,13 +3,13 @@ use Rattle.std.proofs.Common.{◌≡◌, ℕ, ℤ, zero, suc, ◌+◌, ◌-◌, 
 use Rattle.std.specs.Prelude.{Contains, slice_get}
 use Rattle.std.proofs.lemmas.List.Elements.{Contains-append_right}
 use Rattle.pg_cache.specs.Kept.{Kept, first_from, oldest, value_of, with_value, youngest}
-use Rattle.pg_ir.specs.Program.{NumberedProgram}
-use Rattle.pg_run.specs.State.{State}
-use Rattle.pg_run.specs.declared.outcome.Refusal.{Refusal}
-use Rattle.pg_run_trace.specs.declared.schedule.Schedule.{Schedule}
-use Rattle.pg_run_trace.specs.declared.step.Step.{Step}
-use Rattle.pg_law_runs.specs.Cuts.{CanRun}
-use Rattle.pg_law_order.specs.Served.{guided_along}
+use Rattle.pg_go.specs.pg_ir.Program.{NumberedProgram}
+use Rattle.pg_go.specs.pg_run.State.{State}
+use Rattle.pg_go.specs.pg_run.declared.outcome.Refusal.{Refusal}
+use Rattle.pg_go.specs.pg_run_trace.declared.schedule.Schedule.{Schedule}
+use Rattle.pg_go.specs.pg_run_trace.declared.step.Step.{Step}
+use Rattle.pg_law_reuse.specs.pg_law_runs.Cuts.{CanRun}
+use Rattle.pg_law_reuse.specs.pg_law_order.Served.{guided_along}
 use Rattle.pg_law_reuse.specs.Entries.{AreAlike, EntryParts, IsEntry}
 use Rattle.pg_law_reuse.proofs.EntriesOfOneRun.{one_entry}
 use Rattle.pg_session_texts.specs.declared.reply.EndLine.{EndLine}
@@ -18,7 +18,7 @@ use Rattle.pg_session_texts.specs.declared.reply.ReplyKind.{ReplyKind}
 use Rattle.pg_session_texts.specs.declared.reply.ReplyKind.TheVariants.{Recorded, Reused}
 use Rattle.pg_session_texts.specs.Replies.{kind_of}
 use Rattle.pg_session.specs.Sessions.{Answer, Answers, AnswersAll, AnswersLine, found}
-use Rattle.pg_session.specs.Sessions.Answers.{by_reuse, by_recording, by_refusal}
+use Rattle.pg_session.specs.Sessions.Answers.{by_reuse, by_recording, by_refusal, by_untested}
 use Rattle.pg_session_runner.specs.Runs.{IsKept, end_line_of, entry_admits, rotating, runs_by}
 use Rattle.pg_session_runner.proofs.KeptInsertions.{from_oldest}
 
@@ -150,6 +150,7 @@ module _ (p : NumberedProgram) (quantum : ℕ) (a b : Kept EntryParts) (alike : 
       }
   one_answer input can x y next other (by_reuse h) (by_recording i) = absurd (no_number h.number (sym h.least ∙ same_found a b alike input ∙ i.none))
   one_answer input can x y next other (by_reuse h) (by_refusal i) = absurd (no_number h.number (sym h.least ∙ same_found a b alike input ∙ i.none))
+  one_answer input can x y next other (by_reuse h) (by_untested i) = absurd i.untested
   one_answer input can x y next other (by_recording h) (by_reuse i) = absurd (no_number i.number (sym i.least ∙ sym (same_found a b alike input) ∙ h.none))
   one_answer input can x y next other (by_recording h) (by_recording i) =
       let both = two_entries input can h.entry i.entry x.output y.output h.end i.end h.recording i.recording in
@@ -162,6 +163,7 @@ module _ (p : NumberedProgram) (quantum : ℕ) (a b : Kept EntryParts) (alike : 
       let left = h.recording.exits.2 in
       let right = i.recording.ends.2 in
       absurd cc
+  one_answer input can x y next other (by_recording h) (by_untested i) = absurd i.untested
   one_answer input can x y next other (by_refusal h) (by_reuse i) = absurd (no_number i.number (sym i.least ∙ sym (same_found a b alike input) ∙ h.none))
   one_answer input can x y next other (by_refusal h) (by_recording i) =
       let left = h.recording.ends.2 in
@@ -176,6 +178,8 @@ module _ (p : NumberedProgram) (quantum : ℕ) (a b : Kept EntryParts) (alike : 
             (h.recording.printed ∙ ap (λ (z : State). z.printed) (h.recording.ends.1 ∙ sym i.recording.ends.1) ∙ sym i.recording.printed) (h.ends ∙ sym i.ends);
         kept = subst (λ (k : Kept EntryParts). AlikeKept k other) (sym h.stays) (subst (λ (k : Kept EntryParts). AlikeKept a k) (sym i.stays) alike);
       }
+  one_answer input can x y next other (by_refusal h) (by_untested i) = absurd i.untested
+  one_answer input can x y next other (by_untested h) i = absurd h.untested
 
   one_line : (line : Option (List ℤ)) → ((input : List ℤ) → line ≡ Some input → CanRun p input) → (x y : Answer) (next other : Kept EntryParts)
       → AnswersLine entry_admits (runs_by p (rotating quantum)) a line x next → AnswersLine entry_admits (runs_by p (rotating quantum)) b line y other → OneAnswer x y next other

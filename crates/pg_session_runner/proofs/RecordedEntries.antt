@@ -4,11 +4,11 @@ use Rattle.std.specs.Prelude.{count_by, slice_get}
 use Rattle.std.proofs.lemmas.List.Sums.{sum_by-cons}
 use Rattle.pg_cache.specs.Kept.{Kept}
 use Rattle.pg_session_texts.specs.declared.reply.ReplyKind.{ReplyKind}
-use Rattle.pg_session_texts.specs.declared.reply.ReplyKind.TheVariants.{Recorded, Reused, RefusedLine}
-use Rattle.pg_run.specs.declared.outcome.Refusal.{Refusal}
-use Rattle.pg_run.specs.declared.outcome.Refusal.TheVariants as refusals
+use Rattle.pg_session_texts.specs.declared.reply.ReplyKind.TheVariants.{Recorded, Reused, RefusedLine, RefusedUntested}
+use Rattle.pg_go.specs.pg_run.declared.outcome.Refusal.{Refusal}
+use Rattle.pg_go.specs.pg_run.declared.outcome.Refusal.TheVariants as refusals
 use Rattle.pg_session_texts.specs.Replies.{kind_of}
-use Rattle.pg_session.specs.Sessions.{Answer, AnswersAll, AnswersLine, Runs, by_recording, by_refusal, by_reuse}
+use Rattle.pg_session.specs.Sessions.{Answer, AnswersAll, AnswersLine, Runs, by_recording, by_refusal, by_reuse, by_untested}
 use Rattle.pg_session_runner.proofs.ReusedEntries.{Replied, inserts, is_new, none_answered, replied_behind, same_value, told_so}
 
 same_number : (m n : ℕ) → Path ReplyKind (Recorded m) (Recorded n) → m ≡ n
@@ -23,6 +23,9 @@ not_refused refusals.Budget n e = absurd cc
 
 not_no_input : (n : ℕ) → Path ReplyKind RefusedLine (Recorded n) → ⊥
 not_no_input n e = absurd cc
+
+not_untested : (n : ℕ) → Path ReplyKind RefusedUntested (Recorded n) → ⊥
+not_untested n e = absurd cc
 
 module _ {M : Type 0} (admits : M → List ℤ → Bool) (runs : Runs M) where
   -- this line left this entry under this number, where so many were inserted before the first line
@@ -45,6 +48,7 @@ module _ {M : Type 0} (admits : M → List ℤ → Bool) (runs : Runs M) where
         recording = h.recording;
       }
   first kept next (Some input) xs a rest number (by_refusal h) k = absurd (not_refused h.refusal number (sym h.kind ∙ k))
+  first kept next (Some input) xs a rest number (by_untested h) k = absurd (not_untested number (sym h.kind ∙ k))
 
   later : (kept next : Kept M) (x : Option (List ℤ)) (xs : List (Option (List ℤ))) (a : Answer) (rest : List Answer) (line number : ℕ)
       → AnswersLine admits runs kept x a next → Records next.inserted xs rest line number → Records kept.inserted (x ∷ xs) (a ∷ rest) (suc line) number

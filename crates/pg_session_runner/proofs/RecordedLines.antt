@@ -2,26 +2,26 @@
 use Rattle.std.proofs.Common.{◌≡◌, ℕ, ℤ, Bool, true, false, List, [], ◌∷◌, ◌++◌, length, Option, Some, None, refl, sym, ap, ◌∙◌, subst, append-nil}
 use Rattle.std.specs.Prelude.{if◌then◌else◌, slice_get}
 use Rattle.pg_cache.specs.Kept.{Kept}
-use Rattle.pg_ir.specs.declared.ids.InstrId.{InstrId}
-use Rattle.pg_ir.specs.declared.request.TrapName.{TrapName}
-use Rattle.pg_ir.specs.Program.{NumberedProgram}
-use Rattle.pg_run_trace.specs.declared.step.Step.{Step}
-use Rattle.pg_run_trace.specs.declared.turn.Turn.{Turn}
-use Rattle.pg_run.specs.declared.guided_end.GuidedEnd.{GuidedEnd}
-use Rattle.pg_run.specs.declared.guided_end.GuidedEnd.TheVariants as guided
-use Rattle.pg_run.specs.declared.outcome.Outcome.TheVariants as outcomes
-use Rattle.pg_run.specs.MachineStep.{trap_of}
-use Rattle.pg_run.specs.Follow.{Exits, following_of}
-use Rattle.pg_run.specs.Permitted.{IsPermitted, end_before, full_end, has_spent, trapped, turns_left}
-use Rattle.pg_run.specs.Recordings.{IsRecording}
-use Rattle.pg_run.specs.Rotation.{rotation_of}
-use Rattle.pg_run.specs.Runs.{events}
-use Rattle.pg_run.specs.State.{State, exit_value_of, next_of}
+use Rattle.pg_go.specs.pg_ir.declared.ids.InstrId.{InstrId}
+use Rattle.pg_go.specs.pg_ir.declared.request.TrapName.{TrapName}
+use Rattle.pg_go.specs.pg_ir.Program.{NumberedProgram}
+use Rattle.pg_go.specs.pg_run_trace.declared.step.Step.{Step}
+use Rattle.pg_go.specs.pg_run_trace.declared.turn.Turn.{Turn}
+use Rattle.pg_go.specs.pg_run.declared.guided_end.GuidedEnd.{GuidedEnd}
+use Rattle.pg_go.specs.pg_run.declared.guided_end.GuidedEnd.TheVariants as guided
+use Rattle.pg_go.specs.pg_run.declared.outcome.Outcome.TheVariants as outcomes
+use Rattle.pg_go.specs.pg_run.MachineStep.{trap_of}
+use Rattle.pg_go.specs.pg_run.Follow.{Exits, following_of}
+use Rattle.pg_go.specs.pg_run.Permitted.{IsPermitted, end_before, full_end, has_spent, trapped, turns_left}
+use Rattle.pg_go.specs.pg_run.Recordings.{IsRecording}
+use Rattle.pg_go.specs.pg_run.Rotation.{rotation_of}
+use Rattle.pg_go.specs.pg_run.Runs.{events}
+use Rattle.pg_go.specs.pg_run.State.{State, exit_value_of, next_of}
 use Rattle.pg_session_texts.specs.declared.reply.EndLine.{EndLine}
 use Rattle.pg_session_texts.specs.declared.reply.ReplyKind.TheVariants.{Recorded}
 use Rattle.pg_law_reuse.specs.Entries.{EntryParts}
-use Rattle.pg_law_order.specs.Served.{EndsAsGuided, guided_along}
-use Rattle.pg_law_order.proofs.ExitsHaveAllTurns.{exits_with}
+use Rattle.pg_law_reuse.specs.pg_law_order.Served.{EndsAsGuided, guided_along}
+use Rattle.pg_law_reuse.proofs.of_pg_law_order.ExitsHaveAllTurns.{exits_with}
 use Rattle.pg_session.specs.Sessions.{Answer, AnswersAll, opened}
 use Rattle.pg_session_runner.specs.Headline.{IsAsReplied, IsRecordedLine, IsServedRecording}
 use Rattle.pg_session_runner.specs.Runs.{IsKept, Way, end_line_of, entry_admits, runs_by}

@@ -6,11 +6,11 @@ use Rattle.std.proofs.lemmas.List.Sums.{sum_by-cons}
 use Rattle.pg_cache.specs.Kept.{Kept, value_of}
 use Rattle.pg_session_texts.specs.declared.reply.EndLine.{EndLine}
 use Rattle.pg_session_texts.specs.declared.reply.ReplyKind.{ReplyKind}
-use Rattle.pg_session_texts.specs.declared.reply.ReplyKind.TheVariants.{Recorded, Reused, RefusedLine}
-use Rattle.pg_run.specs.declared.outcome.Refusal.{Refusal}
-use Rattle.pg_run.specs.declared.outcome.Refusal.TheVariants as refusals
+use Rattle.pg_session_texts.specs.declared.reply.ReplyKind.TheVariants.{Recorded, Reused, RefusedLine, RefusedUntested}
+use Rattle.pg_go.specs.pg_run.declared.outcome.Refusal.{Refusal}
+use Rattle.pg_go.specs.pg_run.declared.outcome.Refusal.TheVariants as refusals
 use Rattle.pg_session_texts.specs.Replies.{kind_of}
-use Rattle.pg_session.specs.Sessions.{Answer, AnswersAll, AnswersLine, Runs, by_recording, by_refusal, by_reuse}
+use Rattle.pg_session.specs.Sessions.{Answer, AnswersAll, AnswersLine, Runs, by_recording, by_refusal, by_reuse, by_untested}
 use Rattle.pg_session.specs.Trials.{is_recorded}
 use Rattle.pg_session.proofs.KeptEntries.{kept_value}
 use Rattle.pg_session_runner.proofs.KeptInsertions.{Fits, fits_with, value_with}
@@ -40,6 +40,9 @@ not_refused refusals.Budget n e = absurd cc
 
 not_no_input : (n : ℕ) → Path ReplyKind RefusedLine (Reused n) → ⊥
 not_no_input n e = absurd cc
+
+not_untested : (n : ℕ) → Path ReplyKind RefusedUntested (Reused n) → ⊥
+not_untested n e = absurd cc
 
 refused_is_old : (r : Refusal) → is_recorded (kind_of r) ≡ false
 refused_is_old (refusals.Trap name id) = refl
@@ -111,6 +114,7 @@ module _ {M : Type 0} (admits : M → List ℤ → Bool) (runs : Runs M) where
       }
   first kept next (Some input) xs a rest number (by_recording h) k = absurd (not_recorded kept.inserted number (sym h.kind ∙ k))
   first kept next (Some input) xs a rest number (by_refusal h) k = absurd (not_refused h.refusal number (sym h.kind ∙ k))
+  first kept next (Some input) xs a rest number (by_untested h) k = absurd (not_untested number (sym h.kind ∙ k))
 
   -- a value that is kept then was kept before, or is left by the line
   left : (kept next : Kept M) (x : Option (List ℤ)) (a : Answer) (number : ℕ) (entry : M) → Fits kept → AnswersLine admits runs kept x a next
@@ -130,12 +134,14 @@ module _ {M : Type 0} (admits : M → List ℤ → Bool) (runs : Runs M) where
         recording = subst (λ (m : M). runs.recorded input m a.output h.end) (sym v.1) h.recording;
       })
   left kept next (Some input) a number entry f (by_refusal h) e = inl (ap (λ (c : Kept M). value_of c number) (sym h.stays) ∙ e)
+  left kept next (Some input) a number entry f (by_untested h) e = inl (ap (λ (c : Kept M). value_of c number) (sym h.stays) ∙ e)
 
   fits_line : (kept next : Kept M) (x : Option (List ℤ)) (a : Answer) → Fits kept → AnswersLine admits runs kept x a next → Fits next
   fits_line kept next None a f h = subst Fits (sym h.1) f
   fits_line kept next (Some input) a f (by_reuse h) = subst Fits (sym h.stays) f
   fits_line kept next (Some input) a f (by_recording h) = subst Fits (sym h.grows) (fits_with h.entry kept f)
   fits_line kept next (Some input) a f (by_refusal h) = subst Fits (sym h.stays) f
+  fits_line kept next (Some input) a f (by_untested h) = subst Fits (sym h.stays) f
 
   -- a line that was recorded, and no other, inserts an entry
   pub inserts : (kept next : Kept M) (x : Option (List ℤ)) (a : Answer) → AnswersLine admits runs kept x a next → next.inserted ≡ kept.inserted + cond (is_new a) 1 0
@@ -153,6 +159,10 @@ module _ {M : Type 0} (admits : M → List ℤ → Bool) (runs : Runs M) where
       rw new (omega (arith, e))
   inserts kept next (Some input) a (by_refusal h) =
       let new : is_new a ≡ false = ap is_recorded h.kind ∙ refused_is_old h.refusal in
+      let e = ap (λ (c : Kept M). c.inserted) h.stays in
+      rw new (omega (arith, e))
+  inserts kept next (Some input) a (by_untested h) =
+      let new : is_new a ≡ false = ap is_recorded h.kind in
       let e = ap (λ (c : Kept M). c.inserted) h.stays in
       rw new (omega (arith, e))
 

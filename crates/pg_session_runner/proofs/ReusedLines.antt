@@ -2,17 +2,17 @@
 use Rattle.std.proofs.Common.{◌≡◌, ◌⊎◌, ℕ, ℤ, ◌-◌, All, List, length, Option, Some, sym, ap, ◌∙◌, arith, inl, inr}
 use Rattle.std.specs.Prelude.{slice_get}
 use Rattle.pg_cache.specs.Kept.{Kept, oldest, value_of}
-use Rattle.pg_ir.specs.Program.{NumberedProgram}
-use Rattle.pg_run_trace.specs.declared.step.Step.{Step}
-use Rattle.pg_run_trace.specs.declared.turn.Turn.{Turn}
-use Rattle.pg_run.specs.declared.guided_end.GuidedEnd.{GuidedEnd}
-use Rattle.pg_run.specs.Permitted.{full_end}
-use Rattle.pg_run.specs.Runs.{events}
-use Rattle.pg_run.specs.State.{State}
+use Rattle.pg_go.specs.pg_ir.Program.{NumberedProgram}
+use Rattle.pg_go.specs.pg_run_trace.declared.step.Step.{Step}
+use Rattle.pg_go.specs.pg_run_trace.declared.turn.Turn.{Turn}
+use Rattle.pg_go.specs.pg_run.declared.guided_end.GuidedEnd.{GuidedEnd}
+use Rattle.pg_go.specs.pg_run.Permitted.{full_end}
+use Rattle.pg_go.specs.pg_run.Runs.{events}
+use Rattle.pg_go.specs.pg_run.State.{State}
 use Rattle.pg_session_texts.specs.declared.reply.EndLine.{EndLine}
 use Rattle.pg_session_texts.specs.declared.reply.ReplyKind.TheVariants.{Reused}
 use Rattle.pg_law_reuse.specs.Entries.{EntryParts}
-use Rattle.pg_law_order.specs.Served.{EndsAsGuided, RunsAsGuided, guided_along}
+use Rattle.pg_law_reuse.specs.pg_law_order.Served.{EndsAsGuided, RunsAsGuided, guided_along}
 use Rattle.pg_session.specs.Sessions.{Answer, AnswersAll, opened}
 use Rattle.pg_session.proofs.KeptEntries.{at_place}
 use Rattle.pg_session_runner.specs.Headline.{GoesOn, HasOrigin, IsAsReplied, IsRecordedLine, IsReusedLine, of_given, of_line}

@@ -3,22 +3,22 @@ use Rattle.std.proofs.Common.{◌≡◌, ℕ, ℤ, zero, suc, ◌+◌, ◌<◌, 
 use Rattle.std.specs.Prelude.{slice_index, slice_set}
 use Rattle.std.specs.List.{cons_option}
 use Rattle.std.proofs.lemmas.List.{length-map}
-use Rattle.pg_ir.specs.declared.ids.InstrId.{InstrId}
-use Rattle.pg_ir.specs.Program.{NumberedProgram}
-use Rattle.pg_run_trace.specs.declared.schedule.Schedule.{Schedule}
-use Rattle.pg_run_trace.specs.declared.step.Step.{Step}
-use Rattle.pg_run_trace.specs.declared.turn.Turn.{Turn}
-use Rattle.pg_run_trace.specs.Races.{schedule_of, with_gated}
-use Rattle.pg_run.specs.declared.guided_end.GuidedEnd.{GuidedEnd}
-use Rattle.pg_run.specs.Guided.{Walk, all_left, ended_at, guided, guided_of, walk}
-use Rattle.pg_run.specs.Runs.{event_of, events}
-use Rattle.pg_run.specs.State.{State, initial}
-use Rattle.pg_law_runs.specs.LastTurns.{IsRecorded}
+use Rattle.pg_go.specs.pg_ir.declared.ids.InstrId.{InstrId}
+use Rattle.pg_go.specs.pg_ir.Program.{NumberedProgram}
+use Rattle.pg_go.specs.pg_run_trace.declared.schedule.Schedule.{Schedule}
+use Rattle.pg_go.specs.pg_run_trace.declared.step.Step.{Step}
+use Rattle.pg_go.specs.pg_run_trace.declared.turn.Turn.{Turn}
+use Rattle.pg_go.specs.pg_run_trace.Races.{schedule_of, with_gated}
+use Rattle.pg_go.specs.pg_run.declared.guided_end.GuidedEnd.{GuidedEnd}
+use Rattle.pg_go.specs.pg_run.Guided.{Walk, all_left, ended_at, guided, guided_of, walk}
+use Rattle.pg_go.specs.pg_run.Runs.{event_of, events}
+use Rattle.pg_go.specs.pg_run.State.{State, initial}
+use Rattle.pg_law_reuse.specs.pg_law_runs.LastTurns.{IsRecorded}
 use Rattle.pg_law_reuse.specs.Entries.{EntryParts, IsEntry}
 
 -- ---- of a recorded schedule
 
-fewer_events : (xs : List Step) → length (events xs) ≤ length xs
+pub fewer_events : (xs : List Step) → length (events xs) ≤ length xs
 fewer_events [] = omega arith
 fewer_events (x ∷ xs) = go (event_of x) (fewer_events xs)
   where

@@ -1,19 +1,19 @@
 -- What a session promises of each line of input that it records or answers by reuse: the reply is that of every run of the
 -- program on the line's input that the turns of the entry permit.
 use Rattle.std.specs.Prelude.{◌≡◌, ◌≤◌, ◌<◌, ◌⊎◌, ◌+◌, ℕ, ℤ, List, count_by, length, take, true, Option, Some, slice_get}
-use Rattle.pg_ir.specs.Program.{NumberedProgram}
-use Rattle.pg_precondition.specs.Values.{is_admitted}
-use Rattle.pg_run_trace.specs.declared.schedule.Schedule.{Schedule}
-use Rattle.pg_run_trace.specs.declared.step.Step.{Step}
-use Rattle.pg_run.specs.Permitted.{IsFull, IsPermitted, full_end}
-use Rattle.pg_run.specs.Runs.{events}
-use Rattle.pg_run.specs.State.{State}
-use Rattle.pg_law_runs.specs.Cuts.{CanStep, IsOrderedAlong}
-use Rattle.pg_law_order.specs.Good.{run_along}
+use Rattle.pg_go.specs.pg_ir.Program.{NumberedProgram}
+use Rattle.pg_law_reuse.specs.pg_precondition.Values.{is_admitted}
+use Rattle.pg_go.specs.pg_run_trace.declared.schedule.Schedule.{Schedule}
+use Rattle.pg_go.specs.pg_run_trace.declared.step.Step.{Step}
+use Rattle.pg_go.specs.pg_run.Permitted.{IsFull, IsPermitted, full_end}
+use Rattle.pg_go.specs.pg_run.Runs.{events}
+use Rattle.pg_go.specs.pg_run.State.{State}
+use Rattle.pg_law_reuse.specs.pg_law_runs.Cuts.{CanStep, IsOrderedAlong}
+use Rattle.pg_law_reuse.specs.pg_law_order.Good.{run_along}
 use Rattle.pg_session_texts.specs.declared.reply.EndLine.{EndLine}
 use Rattle.pg_session_texts.specs.declared.reply.ReplyKind.TheVariants.{Recorded, Reused}
 use Rattle.pg_law_reuse.specs.Entries.{EntryParts}
-use Rattle.pg_law_order.specs.Served.{IsServed, guided_along}
+use Rattle.pg_law_reuse.specs.pg_law_order.Served.{IsServed, guided_along}
 use Rattle.pg_session.specs.Sessions.{Answer}
 use Rattle.pg_session.specs.Trials.{is_recorded}
 use Rattle.pg_session_runner.specs.Runs.{IsGiven, IsKept, Way, end_line_of}

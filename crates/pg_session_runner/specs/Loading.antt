@@ -1,13 +1,13 @@
 -- Loading: an entry of turns that are given, and why there is none.
 use Rattle.std.specs.Prelude.{◌≡◌, ℤ, Bool, true, false, List, Option, Some, None, slice_get}
 use Rattle.std.specs.List.{list_all}
-use Rattle.pg_ir.specs.declared.ids.InstrId.{InstrId}
-use Rattle.pg_ir.specs.declared.instr.Instr.{Instr}
-use Rattle.pg_ir.specs.declared.instr.Op.{Op}
-use Rattle.pg_ir.specs.declared.instr.Op.TheVariants as op
-use Rattle.pg_ir.specs.Program.{NumberedProgram}
-use Rattle.pg_run_trace.specs.declared.turn.Turn.{Turn}
-use Rattle.pg_run.specs.Follow.{following_of}
+use Rattle.pg_go.specs.pg_ir.declared.ids.InstrId.{InstrId}
+use Rattle.pg_go.specs.pg_ir.declared.instr.Instr.{Instr}
+use Rattle.pg_go.specs.pg_ir.declared.instr.Op.{Op}
+use Rattle.pg_go.specs.pg_ir.declared.instr.Op.TheVariants as op
+use Rattle.pg_go.specs.pg_ir.Program.{NumberedProgram}
+use Rattle.pg_go.specs.pg_run_trace.declared.turn.Turn.{Turn}
+use Rattle.pg_go.specs.pg_run.Follow.{following_of}
 use Rattle.pg_law_reuse.specs.Faults.{IsFault}
 use Rattle.pg_session_runner.specs.declared.loading.LoadFault.{LoadFault}
 use Rattle.pg_session_runner.specs.declared.loading.LoadFault.TheVariants as faults

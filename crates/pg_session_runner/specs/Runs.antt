@@ -1,38 +1,46 @@
 -- What a session asks of the runs of a program: what comes of recording an input, and of a run along an entry's schedule.
 use Rattle.std.specs.Prelude.{◌≡◌, ◌<◌, ◌≤◌, ◌^◌, ℕ, ℤ, pos, Bool, List, length, Option, Some, None}
-use Rattle.pg_num.specs.declared.limits.TheConstants.{QUANTUM_LIMIT}
-use Rattle.pg_ir.specs.Program.{NumberedProgram}
-use Rattle.pg_precondition.specs.Values.{is_admitted}
-use Rattle.pg_run.specs.declared.guided_end.GuidedEnd.{GuidedEnd}
-use Rattle.pg_run.specs.declared.guided_end.GuidedEnd.TheVariants as guided
-use Rattle.pg_run.specs.declared.outcome.Outcome.{Outcome}
-use Rattle.pg_run.specs.declared.outcome.Outcome.TheVariants as outcomes
-use Rattle.pg_run.specs.Recordings.{IsRecording}
-use Rattle.pg_run.specs.Rotation.{rotation_of}
-use Rattle.pg_run.specs.State.{State}
-use Rattle.pg_run_trace.specs.declared.step.Step.{Step}
-use Rattle.pg_law_runs.specs.Cuts.{CanRun}
+use Rattle.pg_go.specs.pg_num.declared.limits.TheConstants.{QUANTUM_LIMIT}
+use Rattle.pg_go.specs.pg_ir.Program.{NumberedProgram}
+use Rattle.pg_law_reuse.specs.pg_precondition.Values.{is_admitted}
+use Rattle.pg_go.specs.pg_run.declared.guided_end.GuidedEnd.{GuidedEnd}
+use Rattle.pg_go.specs.pg_run.declared.guided_end.GuidedEnd.TheVariants as guided
+use Rattle.pg_go.specs.pg_run.declared.outcome.Outcome.{Outcome}
+use Rattle.pg_go.specs.pg_run.declared.outcome.Outcome.TheVariants as outcomes
+use Rattle.pg_go.specs.pg_run.Recordings.{IsRecording}
+use Rattle.pg_go.specs.pg_run.Rotation.{rotation_of}
+use Rattle.pg_go.specs.pg_run.State.{State}
+use Rattle.pg_go.specs.pg_run_trace.declared.step.Step.{Step}
+use Rattle.pg_law_reuse.specs.pg_law_runs.Cuts.{CanRun}
 use Rattle.pg_session_texts.specs.declared.reply.EndLine.{EndLine}
 use Rattle.pg_session_texts.specs.declared.reply.EndLine.TheVariants as ends
 use Rattle.pg_session_texts.specs.Shows.{show_text}
 use Rattle.pg_law_reuse.specs.Entries.{EntryParts, IsEntry, IsEntryOfTurns}
-use Rattle.pg_law_order.specs.Served.{IsServed, guided_along}
-use Rattle.pg_run.specs.declared.outcome.Refusal.{Refusal}
+use Rattle.pg_law_reuse.specs.pg_law_order.Served.{IsServed, guided_along}
+use Rattle.pg_go.specs.pg_run.declared.outcome.Refusal.{Refusal}
 use Rattle.pg_session.specs.Counts.{Counts}
 use Rattle.pg_session.specs.Sessions.{Runs}
 
 -- ---- recording
 
--- how inputs are recorded: by rotation with this quantum, or with the threads in any order in which they are ready
+-- how inputs are recorded: by rotation with this quantum, with the threads in any order in which they are ready, or not at all
 pub data Way : Type 0 where
   rotating : ℕ → Way
   freely : Way
+  tested : Way
 
 -- these steps are a recording of the program on the input that was made so, lead to the state z, and end so
 abbrev pub IsRecordedBy : NumberedProgram → Way → List ℤ → List Step → State → Outcome → Type 0
 IsRecordedBy p (rotating quantum) input xs z end =
     (xs ≡ (rotation_of p input quantum).trace) × (z ≡ (rotation_of p input quantum).state) × (end ≡ (rotation_of p input quantum).end)
 IsRecordedBy p freely input xs z end = IsRecording p input xs z end
+IsRecordedBy p tested input xs z end = ⊥
+
+-- nothing is recorded
+abbrev pub RecordsNothing : Way → Type 0
+RecordsNothing (rotating quantum) = ⊥
+RecordsNothing freely = ⊥
+RecordsNothing tested = Unit {0}
 
 -- a recording of the program on the input exits: this is the entry of that run, this is what it printed, and this is how
 -- the guided run along the entry's schedule ends, which does all turns; and
@@ -92,7 +100,7 @@ pub record Running : Type 0 where
 
 -- the runs of a program, recorded in this way
 abbrev pub runs_by : NumberedProgram → Way → Runs EntryParts
-runs_by p way = record { recorded = IsKept p way; refused = IsNotKept p way; along = RunsAlong p; given = IsGiven p }
+runs_by p way = record { recorded = IsKept p way; refused = IsNotKept p way; untested = λ _. RecordsNothing way; along = RunsAlong p; given = IsGiven p }
 
 -- the runs of a program, recorded by rotation with this quantum
 abbrev pub runs_of : NumberedProgram → ℕ → Runs EntryParts
@@ -106,6 +114,7 @@ entry_admits entry input = is_admitted input entry.precondition
 abbrev pub IsWay : Way → Type 0
 IsWay (rotating quantum) = (1 ≤ quantum) × (quantum ≤ QUANTUM_LIMIT)
 IsWay freely = Unit {0}
+IsWay tested = Unit {0}
 
 -- the program can run on each input of a session, and the quantum of a rotation is within its limits
 pub record CanServe (s : Subject) : Type 0 where

@@ -1,22 +1,25 @@
 //! What holds of the entries of a program and of a session's lines: each law is the clause of a function that does nothing.
-ghost use Rattle.std.specs.Prelude.{Contains, ◌≡◌, ◌<◌, ◌^◌, ℕ, ℤ, All, List, length, true, Option, Some, slice_get};
-ghost use Rattle.pg_ir.specs.Program.{NumberedProgram};
+ghost use Rattle.std.specs.Prelude.{Contains, ◌≡◌, ◌<◌, ◌^◌, ◌++◌, ℕ, ℤ, All, List, length, true, Option, Some, slice_get};
+ghost use Rattle.pg_go.specs.pg_num.declared.limits.TheConstants.{CACHE_LIMIT};
+ghost use Rattle.pg_go.specs.pg_ir.Program.{NumberedProgram};
 ghost use Rattle.pg_cache.specs.Kept.{Kept};
-ghost use Rattle.pg_run_trace.specs.declared.step.Step.{Step};
-ghost use Rattle.pg_run.specs.State.{State};
-ghost use Rattle.pg_law_runs.specs.Cuts.{CanRun};
-ghost use Rattle.pg_law_runs.specs.LastTurns.{IsRecorded};
+ghost use Rattle.pg_go.specs.pg_run_trace.declared.step.Step.{Step};
+ghost use Rattle.pg_go.specs.pg_run.State.{State};
+ghost use Rattle.pg_law_reuse.specs.pg_law_runs.Cuts.{CanRun};
+ghost use Rattle.pg_law_reuse.specs.pg_law_runs.LastTurns.{IsRecorded};
 ghost use Rattle.pg_session_texts.specs.declared.reply.EndLine.{EndLine};
 ghost use Rattle.pg_session_texts.specs.declared.reply.ReplyKind.TheVariants.{Recorded, Reused};
 ghost use Rattle.pg_law_reuse.specs.Entries.{EntryParts, IsEntry};
-ghost use Rattle.pg_law_order.specs.Good.{IsGoodRun};
-ghost use Rattle.pg_law_order.specs.Served.{IsServed};
+ghost use Rattle.pg_law_reuse.specs.pg_law_order.Good.{IsGoodRun};
+ghost use Rattle.pg_law_reuse.specs.pg_law_order.Served.{IsServed};
 ghost use Rattle.pg_session.specs.Sessions.{Answer, AnswersAll, IsEntryOf, IsSessionText, opened};
 ghost use Rattle.pg_session_runner.specs.Headline.{IsReusedLine, IsServedRecording};
-ghost use Rattle.pg_session_runner.specs.Runs.{IsGiven, IsKept, Way, entry_admits, rotating, runs_by};
+ghost use Rattle.pg_session_runner.specs.Limits.{AreWithinLimits, HasFewNumbers};
+ghost use Rattle.pg_session_runner.specs.Runs.{IsGiven, IsKept, Way, entry_admits, rotating, runs_by, tested};
+ghost use Rattle.pg_session_runner.specs.Tested.{IsTestedAnswer};
 
+use pg_go::pg_run::laws::a_rotation_is_a_run;
 use pg_law_reuse::laws::{an_entry_of_turns_serves_what_it_admits, an_entry_serves_what_it_admits};
-use pg_run::laws::a_rotation_is_a_run;
 
 /// The schedule of a recorded run has so few turns that 32 bits count them.
 pub fn a_recorded_schedule_has_few_turns()
@@ -77,3 +80,34 @@ pub fn a_session_in_rotation_has_one_text()
         → IsSessionText entry_admits (runs_by p (rotating quantum)) first inputs text
         → IsSessionText entry_admits (runs_by p (rotating quantum)) first inputs other → text ≡ other }
 {}
+
+/// A session that records nothing keeps its first entries, and answers each line by one of these that admits it, or refuses it. The
+/// answer to a line is settled by the program, the first entries and that line: two sessions answer it alike, whatever other lines
+/// they have. So the text of lines in two parts is the texts of the parts, one after the other; and each of these texts is one alone.
+pub fn a_tested_session_answers_each_line_alone()
+    ensures stays { (p : NumberedProgram) (first kept : Kept EntryParts) (inputs : List (Option (List ℤ))) (answers : List Answer)
+        → AnswersAll entry_admits (runs_by p tested) first inputs answers kept → kept ≡ first }
+    ensures answers { (p : NumberedProgram) (first kept : Kept EntryParts) (inputs : List (Option (List ℤ))) (answers : List Answer)
+        → AnswersAll entry_admits (runs_by p tested) first inputs answers kept
+        → (line : ℕ) (input : Option (List ℤ)) (answer : Answer) → slice_get inputs line ≡ Some input → slice_get answers line ≡ Some answer
+        → IsTestedAnswer p first input answer }
+    ensures alone { (p : NumberedProgram) (first kept last : Kept EntryParts) (inputs others : List (Option (List ℤ))) (answers replies : List Answer)
+        → AnswersAll entry_admits (runs_by p tested) first inputs answers kept → AnswersAll entry_admits (runs_by p tested) first others replies last
+        → (line place : ℕ) (input : Option (List ℤ)) → slice_get inputs line ≡ Some input → slice_get others place ≡ Some input
+        → slice_get answers line ≡ slice_get replies place }
+    ensures parts { (p : NumberedProgram) (first : Kept EntryParts) (inputs others : List (Option (List ℤ))) (text before behind : List ℕ)
+        → IsSessionText entry_admits (runs_by p tested) first (inputs ++ others) text
+        → IsSessionText entry_admits (runs_by p tested) first inputs before → IsSessionText entry_admits (runs_by p tested) first others behind
+        → text ≡ before ++ behind }
+    ensures one_text { (p : NumberedProgram) (first : Kept EntryParts) (inputs : List (Option (List ℤ))) (text other : List ℕ)
+        → IsSessionText entry_admits (runs_by p tested) first inputs text → IsSessionText entry_admits (runs_by p tested) first inputs other → text ≡ other }
+{}
+
+/// What a session keeps at its end is within the limits of a book, where its first entries are and its lines have few numbers.
+pub fn what_a_session_keeps_is_within_limits()
+    ensures { (p : NumberedProgram) (way : Way) (first kept : Kept EntryParts) (inputs : List (Option (List ℤ))) (answers : List Answer)
+        → first.size ≡ CACHE_LIMIT → AreWithinLimits first.values → All HasFewNumbers inputs
+        → AnswersAll entry_admits (runs_by p way) first inputs answers kept → AreWithinLimits kept.values }
+{
+    a_rotation_is_a_run();
+}

@@ -2,6 +2,7 @@
 #![tactic(auto)]
 
 mod along;
+mod crew_in_room;
 pub mod laws;
 mod loading;
 mod recording;
@@ -9,6 +10,11 @@ mod runner;
 mod shows;
 
 pub use loading::{LoadFault, load_turns};
-pub use pg_law_reuse::Entry;
-pub use runner::{FreeRunner, ProgramRunner};
+pub use pg_cache;
+pub use pg_free;
+pub use pg_go;
+pub use pg_go::{pg_ir, pg_num, pg_run, pg_run_trace};
+pub use pg_law_reuse::{Entry, FromFault, pg_law_order};
+pub use pg_session;
+pub use runner::{FreeRunner, ProgramRunner, TestedRunner};
 pub use shows::{show_freely, show_in_rotation};

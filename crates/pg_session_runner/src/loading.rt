@@ -1,13 +1,13 @@
 //! Loading: the entry of turns that are given, which are those of an entry that was kept elsewhere. Nothing of it is trusted.
 ghost use Rattle.std.specs.Prelude.{◌≡◌, true, IfErr, IfOk};
-ghost use Rattle.pg_law_runs.specs.Cuts.{CanRun};
 ghost use Rattle.pg_law_reuse.specs.Entries.{IsEntryOfTurns};
 ghost use Rattle.pg_session_runner.specs.Loading.{IsLoadFault, are_accesses, names_access};
 ghost use Rattle.pg_session_runner.specs.declared.loading.LoadFault.TheVariants.{Turns};
 
-use pg_ir::{InstrId, Op, Program};
+use pg_go::pg_ir::{InstrId, Op, Program};
+use pg_go::pg_run_trace::Turn;
+use pg_law_reuse::pg_law_order::can_run;
 use pg_law_reuse::{Entry, FromFault, from_turns};
-use pg_run_trace::Turn;
 use std::alloc::Global;
 
 /// Why turns that are given are no entry of a program.
@@ -56,7 +56,7 @@ fn are_accesses(p: &Program, gated: &[InstrId]) -> bool
 ///
 /// # Errors
 ///
-/// `Gate` where one of these isn't a load or a store; else `Turns` with the fault of `pg_session_entry::from_turns`.
+/// `Gate` where one of these isn't a load or a store; else `Turns` with the fault of `from_turns`.
 pub fn load_turns(
     alloc: Global,
     p: &Program,
@@ -64,7 +64,6 @@ pub fn load_turns(
     turns: &[Turn],
     gated: &[InstrId],
 ) -> Result<Entry, LoadFault>
-    requires { CanRun p.now input.now }
     ensures entry { IfOk result (IsEntryOfTurns p.now input.now turns.now gated.now) }
     ensures gate { IfOk result (λ _. are_accesses p.now gated.now ≡ true) }
     ensures fault { IfErr result (IsLoadFault p.now input.now turns.now gated.now) }
@@ -73,6 +72,7 @@ pub fn load_turns(
     if !all {
         return Err(LoadFault::Gate);
     }
+    can_run(p, input);
     let entry = from_turns(alloc, p, input, turns, gated)?;
     Ok(entry)
 }

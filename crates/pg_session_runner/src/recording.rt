@@ -1,22 +1,22 @@
 //! What a session keeps of a recording.
 ghost use Rattle.std.specs.Prelude.{◌≡◌, ◌≤◌, ◌<◌, ◌^◌, ℕ, ℤ, List, length, IfOk, OnOk};
-ghost use Rattle.pg_num.specs.declared.limits.TheConstants.{NUMBERS_LIMIT, QUANTUM_LIMIT};
-ghost use Rattle.pg_ir.specs.Program.{NumberedProgram};
-ghost use Rattle.pg_run_trace.specs.declared.step.Step.{Step};
-ghost use Rattle.pg_run.specs.declared.outcome.Outcome.{Outcome};
-ghost use Rattle.pg_run.specs.State.{State};
-ghost use Rattle.pg_law_runs.specs.Cuts.{CanRun};
+ghost use Rattle.pg_go.specs.pg_num.declared.limits.TheConstants.{NUMBERS_LIMIT, QUANTUM_LIMIT};
+ghost use Rattle.pg_go.specs.pg_ir.Program.{NumberedProgram};
+ghost use Rattle.pg_go.specs.pg_run_trace.declared.step.Step.{Step};
+ghost use Rattle.pg_go.specs.pg_run.declared.outcome.Outcome.{Outcome};
+ghost use Rattle.pg_go.specs.pg_run.State.{State};
+ghost use Rattle.pg_law_reuse.specs.pg_law_runs.Cuts.{CanRun};
 ghost use Rattle.pg_law_reuse.specs.Records.{IsRecord, IsRecordOf};
 ghost use Rattle.pg_session.specs.Counts.{RoseBy};
-ghost use Rattle.pg_session.specs.Recordings.{ComesOfRecording};
+ghost use Rattle.pg_session.specs.Recordings.{ComesOfRecording, recordings_of};
 ghost use Rattle.pg_session_runner.specs.Runs.{IsRecordedBy, Way, freely, rotating, runs_by};
 
 use crate::laws::a_recorded_schedule_has_few_turns;
 use pg_free::{FreeCrew, free_record};
-use pg_ir::Program;
+use pg_go::pg_ir::Program;
+use pg_go::pg_run::laws::a_rotation_is_a_run;
 use pg_law_reuse::laws::an_entry_serves_what_it_admits;
 use pg_law_reuse::{Entry, Record, from_recorded, record};
-use pg_run::laws::a_rotation_is_a_run;
 use pg_session::{Recording, Run};
 use pg_session_texts::EndLine;
 use std::alloc::{AllocError, Global};
@@ -35,7 +35,8 @@ fn end_along(entry: &Entry, value: i32) -> EndLine
 /// What a session keeps of the record of a recording.
 fn kept_of(made: Record) -> Recording<Entry>
     requires { (p : NumberedProgram) × (input : List ℤ) × (xs : List Step) × (end : Outcome) × (printed : List ℕ) × IsRecordOf p input xs end printed made }
-    ensures { (p : NumberedProgram) (way : Way) (input : List ℤ) (xs : List Step) (z : State) (end : Outcome) → CanRun p input
+    ensures one { recordings_of result ≡ 1 }
+    ensures gives { (p : NumberedProgram) (way : Way) (input : List ℤ) (xs : List Step) (z : State) (end : Outcome) → CanRun p input
         → IsRecordedBy p way input xs z end → IsRecord p input (record { trace = xs; state = z; end = end }) made → ComesOfRecording (runs_by p way) input result }
 {
     a_rotation_is_a_run();
@@ -69,7 +70,8 @@ pub(crate) fn recorded_in_rotation(
     requires can_run { CanRun p.now input.now }
     requires least { 1 ≤ quantum }
     requires most { quantum ≤ QUANTUM_LIMIT }
-    ensures { IfOk result (ComesOfRecording (runs_by p.now (rotating quantum)) input.now) }
+    ensures gives { IfOk result (ComesOfRecording (runs_by p.now (rotating quantum)) input.now) }
+    ensures one { IfOk result (λ r. recordings_of r ≡ 1) }
 {
     a_rotation_is_a_run();
     let made = record(alloc, p, input, quantum)?;
@@ -92,6 +94,7 @@ pub(crate) fn recorded_freely<H: Threads + Wait + Sync, G: FreeCrew>(
     requires can_run { CanRun p.now input.now }
     requires few { length input.now ≤ NUMBERS_LIMIT }
     ensures gives { IfOk result (ComesOfRecording (runs_by p.now freely) input.now) }
+    ensures one { IfOk result (λ r. recordings_of r ≡ 1) }
     ensures rounds { OnOk result (RoseBy 1 (G.rounds crew.old) (G.rounds crew.new)) }
     ensures stays { RoseBy 0 (G.rounds crew.old) (G.rounds crew.new) }
 {

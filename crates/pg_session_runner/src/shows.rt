@@ -1,19 +1,19 @@
 //! What is shown of the recording of an input.
 ghost use Rattle.std.specs.Prelude.{◌≡◌, ◌≤◌, ◌<◌, ℤ, List, length, All, IfOk, None, OnOk};
-ghost use Rattle.pg_num.specs.declared.limits.TheConstants.{NUMBERS_LIMIT, QUANTUM_LIMIT};
-ghost use Rattle.pg_ir.specs.Program.{NumberedProgram};
-ghost use Rattle.pg_law_runs.specs.Cuts.{CanRun};
+ghost use Rattle.pg_go.specs.pg_num.declared.limits.TheConstants.{NUMBERS_LIMIT, QUANTUM_LIMIT};
+ghost use Rattle.pg_go.specs.pg_ir.Program.{NumberedProgram};
+ghost use Rattle.pg_law_reuse.specs.pg_law_runs.Cuts.{CanRun};
 ghost use Rattle.pg_session_texts.specs.Replies.{kind_of, reply_text};
 ghost use Rattle.pg_session.specs.Counts.{RoseBy};
 ghost use Rattle.pg_session.specs.Recordings.{ComesOfRecording};
 ghost use Rattle.pg_session.specs.Shows.{IsShowText};
-ghost use Rattle.pg_session_runner.specs.Runs.{Way, exit_value, freely, rotating, runs_by, shown};
+ghost use Rattle.pg_session_runner.specs.Runs.{RecordsNothing, Way, exit_value, freely, rotating, runs_by, shown};
 
 use crate::recording::{recorded_freely, recorded_in_rotation};
 use pg_free::FreeCrew;
-use pg_ir::Program;
+use pg_go::pg_ir::Program;
+use pg_go::pg_run::Refusal;
 use pg_law_reuse::Entry;
-use pg_run::Refusal;
 use pg_session::{Recording, Run};
 use pg_session_texts::{EndLine, ReplyKind, reply_text, show_text};
 use std::alloc::{AllocError, Global};
@@ -57,13 +57,14 @@ fn refusal_text(alloc: Global, refusal: Refusal, output: &[u8]) -> Result<Vec<u8
 
 /// What is shown of a recording.
 fn recording_text(alloc: Global, recording: &Recording<Entry>) -> Result<Vec<u8>, AllocError>
-    requires { (p : NumberedProgram) × (way : Way) × (input : List ℤ) × ComesOfRecording (runs_by p way) input recording.now }
+    requires { (p : NumberedProgram) × (way : Way) × (input : List ℤ) × ComesOfRecording (runs_by p way) input recording.now × (RecordsNothing way → ⊥) }
     ensures { IfOk result (λ text. (p : NumberedProgram) (way : Way) (input : List ℤ) → ComesOfRecording (runs_by p way) input recording.now
         → IsShowText (runs_by p way) shown input text.items) }
 {
     match recording {
         Recording::Kept(entry, run) => entry_text(alloc, entry, run),
         Recording::Refused(refusal, output) => refusal_text(alloc, *refusal, output),
+        Recording::Untested => unreachable!(),
     }
 }
 

@@ -1,2 +1,3 @@
 pub mod Replies
 pub mod Shows
+pub use Rattle.pg_run.specs as pg_run

@@ -5,7 +5,7 @@ use Rattle.pg_ir.specs.TrapNames.{trap_text}
 use Rattle.pg_run.specs.declared.outcome.Refusal.{Refusal}
 use Rattle.pg_run.specs.declared.outcome.Refusal.TheVariants as refusals
 use Rattle.pg_session_texts.specs.declared.reply.ReplyKind.{ReplyKind}
-use Rattle.pg_session_texts.specs.declared.reply.ReplyKind.TheVariants.{Recorded, Reused, RefusedLine, RefusedTrap, RefusedBudget}
+use Rattle.pg_session_texts.specs.declared.reply.ReplyKind.TheVariants.{Recorded, Reused, RefusedLine, RefusedTrap, RefusedBudget, RefusedUntested}
 use Rattle.pg_session_texts.specs.declared.reply.EndLine.{EndLine}
 use Rattle.pg_session_texts.specs.declared.reply.EndLine.TheVariants.{Exit, Trap, Budget}
 
@@ -21,6 +21,7 @@ reply_line (Reused entry) = codes "reused " ++ (decimal entry ++ codes "\n")
 reply_line RefusedLine = codes "refused line\n"
 reply_line (RefusedTrap name id) = codes "refused trap " ++ (trap_text name ++ (codes " at " ++ (decimal id.0 ++ codes "\n")))
 reply_line RefusedBudget = codes "refused budget\n"
+reply_line RefusedUntested = codes "refused untested\n"
 
 -- how a run along a schedule ended, after so many turns
 abbrev pub end_line : EndLine → List ℕ

@@ -4,5 +4,6 @@
 mod reply;
 mod show;
 
+pub use pg_run;
 pub use reply::{EndLine, ReplyKind, reply_text};
 pub use show::show_text;

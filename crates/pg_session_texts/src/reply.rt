@@ -20,6 +20,8 @@ pub enum ReplyKind {
     RefusedTrap(TrapName, InstrId),
     /// Its recording took all the steps that one may take.
     RefusedBudget,
+    /// No entry admits it, and nothing is recorded.
+    RefusedUntested,
 }
 
 impl From<Refusal> for ReplyKind {
@@ -57,6 +59,7 @@ pub(crate) fn reply_line(alloc: Global, kind: ReplyKind) -> Result<String, Alloc
             format!(in alloc; "refused trap {name} at {number}\n")
         }
         ReplyKind::RefusedBudget => format!(in alloc; "refused budget\n"),
+        ReplyKind::RefusedUntested => format!(in alloc; "refused untested\n"),
     }
 }
 

@@ -9,15 +9,15 @@ use Rattle.pg_slice_rules.specs.Closed.{IsClosed}
 use Rattle.pg_slice_rules.specs.Known.{Reference, Seen, Taken, is_branch, seen_in}
 use Rattle.pg_slice_rules.specs.Moments.{Moment}
 use Rattle.pg_slice_rules.specs.Rules.{access_footprint, asks_disturbed, asks_pins, asks_shared, bounds_meet, is_disturbed, is_shared, region_footprints}
-use Rattle.pg_law_least.specs.Keeps.{ExtentsKeep, every}
-use Rattle.pg_law_least.specs.Along.{region_in}
-use Rattle.pg_law_least.proofs.AskedDecisions.{none_asked}
-use Rattle.pg_law_least.proofs.LikeValues.{Likes}
+use Rattle.pg_slice_walk.specs.pg_law_least.Keeps.{ExtentsKeep, every}
+use Rattle.pg_slice_walk.specs.pg_law_least.Along.{region_in}
+use Rattle.pg_slice_walk.proofs.of_pg_law_least.AskedDecisions.{none_asked}
+use Rattle.pg_slice_walk.proofs.of_pg_law_least.LikeValues.{Likes}
 use Rattle.pg_region_paths.proofs.Elements.{cases as cases_in, here, none_in}
-use Rattle.pg_law_demands.specs.Along.{known_at}
-use Rattle.pg_law_demands.proofs.StepBack.{live_before}
+use Rattle.pg_slice_walk.specs.pg_law_demands.Along.{known_at}
+use Rattle.pg_slice_walk.proofs.of_pg_law_demands.StepBack.{live_before}
 use Rattle.pg_slice.specs.Rivals.{AreDisturbed, AreShared, IsLiveAt}
-use Rattle.pg_slice_back.proofs.KnownBefore.{at_step, of_those, the_link}
+use Rattle.pg_slice_walk.proofs.of_pg_slice_back.KnownBefore.{at_step, of_those, the_link}
 
 -- a list with an element that passes
 pub any_in : {A : Type 0} (f : A → Bool) (xs : List A) (x : A) → Contains xs x → f x ≡ true → list_any f xs ≡ true

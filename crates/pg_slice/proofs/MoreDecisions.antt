@@ -4,8 +4,8 @@ use Rattle.std.specs.Prelude.{IfSome, slice_get, slice_index_or}
 use Rattle.pg_slice_rules.specs.Closed.{AreWithin}
 use Rattle.pg_slice_rules.specs.Known.{Reference, Taken}
 use Rattle.pg_slice_rules.specs.Moments.{Moment}
-use Rattle.pg_law_least.proofs.OldestFreeExtent.{live_more}
-use Rattle.pg_slice_replay.specs.declared.run.ReferenceRun.{ReferenceRun}
+use Rattle.pg_slice_walk.proofs.of_pg_law_least.OldestFreeExtent.{live_more}
+use Rattle.pg_slice_walk.specs.pg_slice_replay.declared.run.ReferenceRun.{ReferenceRun}
 use Rattle.pg_run_trace.specs.declared.step.Step.{Step}
 use Rattle.pg_slice_walk.specs.Chains.{Holds}
 use Rattle.pg_slice_walk.specs.Settled.{ArePinned}

@@ -4,9 +4,9 @@ use Rattle.std.specs.Prelude.{◌||◌, IfSome}
 use Rattle.std.specs.List.{list_any}
 use Rattle.pg_slice_rules.specs.Freeable.{FreeAccess, FreeRegion, bounds_of}
 use Rattle.pg_slice_rules.specs.Rules.{Footprint, footprints_in}
-use Rattle.pg_slice_replay.specs.Landmarks.{Landmark}
-use Rattle.pg_slice_replay.specs.Given.{access_as}
-use Rattle.pg_slice_replay.specs.declared.run.FreeAccess.{FreeAccess as ACodeAccess}
+use Rattle.pg_slice_walk.specs.pg_slice_replay.Landmarks.{Landmark}
+use Rattle.pg_slice_walk.specs.pg_slice_replay.Given.{access_as}
+use Rattle.pg_slice_walk.specs.pg_slice_replay.declared.run.FreeAccess.{FreeAccess as ACodeAccess}
 use Rattle.pg_slice.specs.Footprints.{pointer_footprint}
 
 some_is : {A : Type 0} (x y : A) → Some x ≡ Some y → x ≡ y

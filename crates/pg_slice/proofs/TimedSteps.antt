@@ -15,12 +15,12 @@ use Rattle.pg_slice_rules.specs.Freeable.{FreeRegion}
 use Rattle.pg_slice_rules.specs.Known.{Taken, is_branch}
 use Rattle.pg_slice_rules.specs.Moments.{Moment, moments_of}
 use Rattle.pg_slice_rules.specs.Rules.{any_conflict, is_plain, footprint_of, footprints_in}
-use Rattle.pg_law_least.specs.Along.{region_in}
-use Rattle.pg_slice_replay.specs.declared.run.ReferenceRun.{ReferenceRun}
-use Rattle.pg_slice_replay.specs.Kept.{landmark_at}
-use Rattle.pg_slice_replay.specs.Landmarks.{Landmark, landmark_of}
-use Rattle.pg_slice_passes.specs.Given.{reference_of}
-use Rattle.pg_slice_passes.proofs.OneStepMore.{has_moment}
+use Rattle.pg_slice_walk.specs.pg_law_least.Along.{region_in}
+use Rattle.pg_slice_walk.specs.pg_slice_replay.declared.run.ReferenceRun.{ReferenceRun}
+use Rattle.pg_slice_walk.specs.pg_slice_replay.Kept.{landmark_at}
+use Rattle.pg_slice_walk.specs.pg_slice_replay.Landmarks.{Landmark, landmark_of}
+use Rattle.pg_slice_walk.specs.pg_slice_passes.Given.{reference_of}
+use Rattle.pg_slice_walk.proofs.of_pg_slice_passes.OneStepMore.{has_moment}
 use Rattle.pg_slice.specs.Settled.{AreLive, AreTogether, Disturbs, IsOwed, Shares}
 use Rattle.pg_slice_walk.specs.Settled.{ArePinned}
 use Rattle.pg_slice_walk.proofs.StepMoments.{has_at, index_same}

@@ -6,9 +6,9 @@ use Rattle.pg_slice_rules.specs.Extents.{is_live}
 use Rattle.pg_slice_rules.specs.Known.{Reference, Taken, thread_of}
 use Rattle.pg_slice_rules.specs.Moments.{Moment, thread_in}
 use Rattle.pg_slice_rules.specs.Rules.{any_conflict, is_plain, footprint_of, footprints_in}
-use Rattle.pg_law_least.specs.Along.{region_in}
-use Rattle.pg_law_least.specs.Keeps.{every}
-use Rattle.pg_law_demands.specs.Along.{known_at}
+use Rattle.pg_slice_walk.specs.pg_law_least.Along.{region_in}
+use Rattle.pg_slice_walk.specs.pg_law_least.Keeps.{every}
+use Rattle.pg_slice_walk.specs.pg_law_demands.Along.{known_at}
 
 -- each freeable branch step in whose extent the step lies is pinned
 abbrev pub IsLiveAt : Reference → Taken → ℕ → Moment → Type 0

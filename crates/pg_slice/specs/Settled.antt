@@ -9,13 +9,13 @@ use Rattle.pg_slice_rules.specs.Freeable.{Regions}
 use Rattle.pg_slice_rules.specs.Known.{Taken, has}
 use Rattle.pg_slice_rules.specs.declared.decision.Decision.{Decision}
 use Rattle.pg_slice_rules.specs.Moments.{Moment, thread_in}
-use Rattle.pg_law_least.specs.Keeps.{ExtentsKeep}
+use Rattle.pg_slice_walk.specs.pg_law_least.Keeps.{ExtentsKeep}
 use Rattle.pg_schedule.specs.declared.interval.Interval.{Interval}
 use Rattle.pg_schedule.specs.declared.interval.Turns.TheVariants.{Recorded}
 use Rattle.pg_schedule.specs.Intervals.{intervals_of}
-use Rattle.pg_slice_replay.specs.declared.run.ReferenceRun.{ReferenceRun}
-use Rattle.pg_slice_replay.specs.Kept.{step_count}
-use Rattle.pg_slice_passes.specs.Given.{HasLandmarks, reference_of}
+use Rattle.pg_slice_walk.specs.pg_slice_replay.declared.run.ReferenceRun.{ReferenceRun}
+use Rattle.pg_slice_walk.specs.pg_slice_replay.Kept.{step_count}
+use Rattle.pg_slice_walk.specs.pg_slice_passes.Given.{HasLandmarks, reference_of}
 use Rattle.pg_slice_walk.specs.Chains.{Holds}
 use Rattle.pg_slice_walk.specs.Settled.{ArePinned}
 use Rattle.pg_slice.specs.Rivals.{AreDisturbed, AreShared}

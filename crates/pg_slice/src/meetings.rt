@@ -3,56 +3,56 @@ ghost use Rattle.std.specs.Prelude.{◌≡◌, ◌<◌, ◌&&◌, true, false, n
 ghost use Rattle.pg_slice_rules.specs.Rules as rules;
 ghost use Rattle.pg_schedule.specs.Intervals.{intervals_of};
 ghost use Rattle.pg_schedule.specs.declared.interval.Turns.TheVariants.{Recorded};
-ghost use Rattle.pg_slice_replay.specs.Kept.{step_count};
+ghost use Rattle.pg_slice_walk.specs.pg_slice_replay.Kept.{step_count};
 ghost use Rattle.pg_slice.specs.Settled.{AreTogether, Disturbs, Shares};
 
 use crate::footprints::{accesses_meet, region_meets};
 use crate::rivals::Rivals;
 use pg_run_trace::{Step, StepKind, Trace};
 use pg_schedule::{Interval, interval_at};
-use pg_slice_passes::GivenRun;
 use pg_slice_walk::marks::mark_at;
+use pg_slice_walk::pg_slice_passes::GivenRun;
 
 /// How many stretches are looked at: of steps whose intervals overlap, most stand near each other.
 const NEAR: usize = 16;
 
 /// Whether intervals overlap.
-fn overlap(x: Interval, y: Interval) -> bool
-    ensures { result ≡ (not (nat_lt x.high y.low) && not (nat_lt y.high x.low)) }
+fn overlap(one: Interval, other: Interval) -> bool
+    ensures { result ≡ (not (nat_lt one.high other.low) && not (nat_lt other.high one.low)) }
 {
-    !(x.high < y.low) && !(y.high < x.low)
+    !(one.high < other.low) && !(other.high < one.low)
 }
 
 /// Whether two steps are of different threads, in overlapping intervals.
-fn are_together(t: &Trace, intervals: &[Interval], n: usize, y: usize) -> bool
-    requires intervals { intervals.now ≡ intervals_of Recorded t.now.steps }
-    requires number { n < length t.now.steps }
-    requires other { y < length t.now.steps }
-    ensures { result ≡ true → AreTogether t.now.steps n y }
+fn are_together(trace: &Trace, intervals: &[Interval], number: usize, other: usize) -> bool
+    requires intervals { intervals.now ≡ intervals_of Recorded trace.now.steps }
+    requires number { number < length trace.now.steps }
+    requires other { other < length trace.now.steps }
+    ensures { result ≡ true → AreTogether trace.now.steps number other }
 {
-    let x = t.step(n);
-    let z = t.step(y);
-    if x.thread.0 == z.thread.0 {
+    let step = trace.step(number);
+    let other_step = trace.step(other);
+    if step.thread.0 == other_step.thread.0 {
         return false;
     }
-    let i = interval_at(intervals, n);
-    let j = interval_at(intervals, y);
-    overlap(i, j)
+    let interval = interval_at(intervals, number);
+    let other_interval = interval_at(intervals, other);
+    overlap(interval, other_interval)
 }
 
 /// Whether a step disturbs a freeable one.
-fn disturbs(run: &GivenRun, n: usize, y: usize) -> bool
+fn disturbs(run: &GivenRun, number: usize, other: usize) -> bool
     requires count { step_count run.now.r.now ≡ length run.now.t.now.steps }
     requires intervals { run.now.intervals.now ≡ intervals_of Recorded run.now.t.now.steps }
-    requires number { n < length run.now.t.now.steps }
-    requires other { y < length run.now.t.now.steps }
-    ensures { result ≡ true → Disturbs run.now.r.now run.now.t.now.steps n y }
+    requires number { number < length run.now.t.now.steps }
+    requires other { other < length run.now.t.now.steps }
+    ensures { result ≡ true → Disturbs run.now.r.now run.now.t.now.steps number other }
 {
-    if !are_together(run.t, run.intervals, n, y) {
+    if !are_together(run.t, run.intervals, number, other) {
         return false;
     }
-    let z = run.t.step(y);
-    region_meets(run.r, n, &z, y)
+    let step = run.t.step(other);
+    region_meets(run.r, number, &step, other)
 }
 
 /// Whether a step is a load or a store that is no event.
@@ -66,42 +66,42 @@ fn is_plain(step: &Step) -> bool
 }
 
 /// Whether a step is a load or a store that is no event and whose bounds meet those of another's access.
-fn shares(t: &Trace, intervals: &[Interval], n: usize, y: usize) -> bool
-    requires intervals { intervals.now ≡ intervals_of Recorded t.now.steps }
-    requires number { n < length t.now.steps }
-    requires other { y < length t.now.steps }
-    ensures { result ≡ true → Shares t.now.steps n y }
+fn shares(trace: &Trace, intervals: &[Interval], number: usize, other: usize) -> bool
+    requires intervals { intervals.now ≡ intervals_of Recorded trace.now.steps }
+    requires number { number < length trace.now.steps }
+    requires other { other < length trace.now.steps }
+    ensures { result ≡ true → Shares trace.now.steps number other }
 {
-    if !are_together(t, intervals, n, y) {
+    if !are_together(trace, intervals, number, other) {
         return false;
     }
-    let x = t.step(n);
-    let z = t.step(y);
-    if !is_plain(&x) {
+    let step = trace.step(number);
+    let other_step = trace.step(other);
+    if !is_plain(&step) {
         return false;
     }
-    accesses_meet(&x, &z)
+    accesses_meet(&step, &other_step)
 }
 
 /// Whether a step is live and disturbs a freeable one.
-fn is_disturbing(run: &GivenRun, live: &[bool], n: usize, y: usize) -> bool
+fn is_disturbing(run: &GivenRun, live: &[bool], number: usize, other: usize) -> bool
     requires count { step_count run.now.r.now ≡ length run.now.t.now.steps }
     requires intervals { run.now.intervals.now ≡ intervals_of Recorded run.now.t.now.steps }
-    requires number { n < length run.now.t.now.steps }
-    ensures { result ≡ true → (y < length run.now.t.now.steps) × (slice_index_or live.now y false ≡ true) × Disturbs run.now.r.now run.now.t.now.steps n y }
+    requires number { number < length run.now.t.now.steps }
+    ensures { result ≡ true → (other < length run.now.t.now.steps) × (slice_index_or live.now other false ≡ true) × Disturbs run.now.r.now run.now.t.now.steps number other }
 {
-    if y >= run.t.len() {
+    if other >= run.t.len() {
         return false;
     }
-    if !mark_at(live, y) {
+    if !mark_at(live, other) {
         return false;
     }
-    disturbs(run, n, y)
+    disturbs(run, number, other)
 }
 
 /// The turn that a step's thread does next; the first where nothing is told of the step.
-fn next_turn(intervals: &[Interval], n: usize) -> usize {
-    match intervals.get(n) {
+fn next_turn(intervals: &[Interval], number: usize) -> usize {
+    match intervals.get(number) {
         Some(interval) => interval.high,
         None => 0,
     }
@@ -112,20 +112,20 @@ fn disturbing_near(
     rivals: &Rivals,
     run: &GivenRun,
     live: &[bool],
-    n: usize,
+    number: usize,
     word: u64,
 ) -> Option<usize>
     requires count { step_count run.now.r.now ≡ length run.now.t.now.steps }
     requires intervals { run.now.intervals.now ≡ intervals_of Recorded run.now.t.now.steps }
-    requires number { n < length run.now.t.now.steps }
-    ensures { IfSome result (λ y. (y < length run.now.t.now.steps) × (slice_index_or live.now y false ≡ true) × Disturbs run.now.r.now run.now.t.now.steps n y) }
+    requires number { number < length run.now.t.now.steps }
+    ensures { IfSome result (λ y. (y < length run.now.t.now.steps) × (slice_index_or live.now y false ≡ true) × Disturbs run.now.r.now run.now.t.now.steps number y) }
 {
     let mut seen: usize = 0;
-    for (stretch, step) in rivals.up_to(word, next_turn(run.intervals, n)) {
+    for (stretch, step) in rivals.up_to(word, next_turn(run.intervals, number)) {
         if seen == NEAR || !stretch.begins_at(word) {
             return None;
         }
-        if is_disturbing(run, live, n, *step) {
+        if is_disturbing(run, live, number, *step) {
             return Some(*step);
         }
         seen = seen.saturating_add(1);
@@ -138,16 +138,16 @@ fn disturbing_last(
     rivals: &Rivals,
     run: &GivenRun,
     live: &[bool],
-    n: usize,
+    number: usize,
     word: u64,
     writes: bool,
 ) -> Option<usize>
     requires count { step_count run.now.r.now ≡ length run.now.t.now.steps }
     requires intervals { run.now.intervals.now ≡ intervals_of Recorded run.now.t.now.steps }
-    requires number { n < length run.now.t.now.steps }
-    ensures { IfSome result (λ y. (y < length run.now.t.now.steps) × (slice_index_or live.now y false ≡ true) × Disturbs run.now.r.now run.now.t.now.steps n y) }
+    requires number { number < length run.now.t.now.steps }
+    ensures { IfSome result (λ y. (y < length run.now.t.now.steps) × (slice_index_or live.now y false ≡ true) × Disturbs run.now.r.now run.now.t.now.steps number y) }
 {
-    let thread = run.t.step(n).thread;
+    let thread = run.t.step(number).thread;
     for (accessor, last) in rivals.from(word) {
         if !accessor.begins_at(word) {
             return None;
@@ -155,7 +155,7 @@ fn disturbing_last(
         if !accessor.may_meet(thread, writes) {
             continue;
         }
-        if is_disturbing(run, live, n, *last) {
+        if is_disturbing(run, live, number, *last) {
             return Some(*last);
         }
     }
@@ -167,18 +167,18 @@ fn disturbing_at(
     rivals: &Rivals,
     run: &GivenRun,
     live: &[bool],
-    n: usize,
+    number: usize,
     word: u64,
     writes: bool,
 ) -> Option<usize>
     requires count { step_count run.now.r.now ≡ length run.now.t.now.steps }
     requires intervals { run.now.intervals.now ≡ intervals_of Recorded run.now.t.now.steps }
-    requires number { n < length run.now.t.now.steps }
-    ensures { IfSome result (λ y. (y < length run.now.t.now.steps) × (slice_index_or live.now y false ≡ true) × Disturbs run.now.r.now run.now.t.now.steps n y) }
+    requires number { number < length run.now.t.now.steps }
+    ensures { IfSome result (λ y. (y < length run.now.t.now.steps) × (slice_index_or live.now y false ≡ true) × Disturbs run.now.r.now run.now.t.now.steps number y) }
 {
-    match disturbing_last(rivals, run, live, n, word, writes) {
+    match disturbing_last(rivals, run, live, number, word, writes) {
         Some(y) => Some(y),
-        None => disturbing_near(rivals, run, live, n, word),
+        None => disturbing_near(rivals, run, live, number, word),
     }
 }
 
@@ -187,29 +187,34 @@ fn disturbing_one(
     rivals: &Rivals,
     run: &GivenRun,
     live: &[bool],
-    n: usize,
+    number: usize,
     k: usize,
 ) -> Option<usize>
     requires count { step_count run.now.r.now ≡ length run.now.t.now.steps }
     requires intervals { run.now.intervals.now ≡ intervals_of Recorded run.now.t.now.steps }
-    requires number { n < length run.now.t.now.steps }
-    ensures { IfSome result (λ y. (y < length run.now.t.now.steps) × (slice_index_or live.now y false ≡ true) × Disturbs run.now.r.now run.now.t.now.steps n y) }
+    requires number { number < length run.now.t.now.steps }
+    ensures { IfSome result (λ y. (y < length run.now.t.now.steps) × (slice_index_or live.now y false ≡ true) × Disturbs run.now.r.now run.now.t.now.steps number y) }
 {
-    match run.r.access(n, k) {
-        Some(access) => disturbing_at(rivals, run, live, n, access.last, access.writes),
+    match run.r.access(number, k) {
+        Some(access) => disturbing_at(rivals, run, live, number, access.last, access.writes),
         None => None,
     }
 }
 
 /// A live step that disturbs a freeable one.
-pub(crate) fn disturbing(rivals: &Rivals, run: &GivenRun, live: &[bool], n: usize) -> Option<usize>
+pub(crate) fn disturbing(
+    rivals: &Rivals,
+    run: &GivenRun,
+    live: &[bool],
+    number: usize,
+) -> Option<usize>
     requires count { step_count run.now.r.now ≡ length run.now.t.now.steps }
     requires intervals { run.now.intervals.now ≡ intervals_of Recorded run.now.t.now.steps }
-    requires number { n < length run.now.t.now.steps }
-    ensures { IfSome result (λ y. (y < length run.now.t.now.steps) × (slice_index_or live.now y false ≡ true) × Disturbs run.now.r.now run.now.t.now.steps n y) }
+    requires number { number < length run.now.t.now.steps }
+    ensures { IfSome result (λ y. (y < length run.now.t.now.steps) × (slice_index_or live.now y false ≡ true) × Disturbs run.now.r.now run.now.t.now.steps number y) }
 {
-    for k in 0..run.r.access_count(n) {
-        if let Some(y) = disturbing_one(rivals, run, live, n, k) {
+    for k in 0..run.r.access_count(number) {
+        if let Some(y) = disturbing_one(rivals, run, live, number, k) {
             return Some(y);
         }
     }
@@ -217,40 +222,46 @@ pub(crate) fn disturbing(rivals: &Rivals, run: &GivenRun, live: &[bool], n: usiz
 }
 
 /// Whether a step is live and its access meets that of a load or a store that is no event.
-fn is_sharing(t: &Trace, intervals: &[Interval], live: &[bool], n: usize, y: usize) -> bool
-    requires intervals { intervals.now ≡ intervals_of Recorded t.now.steps }
-    requires number { n < length t.now.steps }
-    ensures { result ≡ true → (y < length t.now.steps) × (slice_index_or live.now y false ≡ true) × Shares t.now.steps n y }
+fn is_sharing(
+    trace: &Trace,
+    intervals: &[Interval],
+    live: &[bool],
+    number: usize,
+    other: usize,
+) -> bool
+    requires intervals { intervals.now ≡ intervals_of Recorded trace.now.steps }
+    requires number { number < length trace.now.steps }
+    ensures { result ≡ true → (other < length trace.now.steps) × (slice_index_or live.now other false ≡ true) × Shares trace.now.steps number other }
 {
-    if y >= t.len() {
+    if other >= trace.len() {
         return false;
     }
-    if !mark_at(live, y) {
+    if !mark_at(live, other) {
         return false;
     }
-    shares(t, intervals, n, y)
+    shares(trace, intervals, number, other)
 }
 
 /// A live step of one of the last stretches that begin before the next turn of a load's or a store's thread, whose access meets
 /// that of this, which is no event.
 fn sharing_near(
     rivals: &Rivals,
-    t: &Trace,
+    trace: &Trace,
     intervals: &[Interval],
     live: &[bool],
-    n: usize,
+    number: usize,
     word: u64,
 ) -> Option<usize>
-    requires intervals { intervals.now ≡ intervals_of Recorded t.now.steps }
-    requires number { n < length t.now.steps }
-    ensures { IfSome result (λ y. (y < length t.now.steps) × (slice_index_or live.now y false ≡ true) × Shares t.now.steps n y) }
+    requires intervals { intervals.now ≡ intervals_of Recorded trace.now.steps }
+    requires number { number < length trace.now.steps }
+    ensures { IfSome result (λ y. (y < length trace.now.steps) × (slice_index_or live.now y false ≡ true) × Shares trace.now.steps number y) }
 {
     let mut seen: usize = 0;
-    for (stretch, step) in rivals.up_to(word, next_turn(intervals, n)) {
+    for (stretch, step) in rivals.up_to(word, next_turn(intervals, number)) {
         if seen == NEAR || !stretch.begins_at(word) {
             return None;
         }
-        if is_sharing(t, intervals, live, n, *step) {
+        if is_sharing(trace, intervals, live, number, *step) {
             return Some(*step);
         }
         seen = seen.saturating_add(1);
@@ -261,18 +272,18 @@ fn sharing_near(
 /// A live step that is the last of its accessor, and whose access meets that of a load or a store that is no event.
 fn sharing_last(
     rivals: &Rivals,
-    t: &Trace,
+    trace: &Trace,
     intervals: &[Interval],
     live: &[bool],
-    n: usize,
+    number: usize,
     word: u64,
     writes: bool,
 ) -> Option<usize>
-    requires intervals { intervals.now ≡ intervals_of Recorded t.now.steps }
-    requires number { n < length t.now.steps }
-    ensures { IfSome result (λ y. (y < length t.now.steps) × (slice_index_or live.now y false ≡ true) × Shares t.now.steps n y) }
+    requires intervals { intervals.now ≡ intervals_of Recorded trace.now.steps }
+    requires number { number < length trace.now.steps }
+    ensures { IfSome result (λ y. (y < length trace.now.steps) × (slice_index_or live.now y false ≡ true) × Shares trace.now.steps number y) }
 {
-    let thread = t.step(n).thread;
+    let thread = trace.step(number).thread;
     for (accessor, last) in rivals.from(word) {
         if !accessor.begins_at(word) {
             return None;
@@ -280,7 +291,7 @@ fn sharing_last(
         if !accessor.may_meet(thread, writes) {
             continue;
         }
-        if is_sharing(t, intervals, live, n, *last) {
+        if is_sharing(trace, intervals, live, number, *last) {
             return Some(*last);
         }
     }
@@ -290,19 +301,19 @@ fn sharing_last(
 /// A live step whose access meets that of a load or a store that is no event.
 pub(crate) fn sharing(
     rivals: &Rivals,
-    t: &Trace,
+    trace: &Trace,
     intervals: &[Interval],
     live: &[bool],
-    n: usize,
+    number: usize,
     word: u64,
     writes: bool,
 ) -> Option<usize>
-    requires intervals { intervals.now ≡ intervals_of Recorded t.now.steps }
-    requires number { n < length t.now.steps }
-    ensures { IfSome result (λ y. (y < length t.now.steps) × (slice_index_or live.now y false ≡ true) × Shares t.now.steps n y) }
+    requires intervals { intervals.now ≡ intervals_of Recorded trace.now.steps }
+    requires number { number < length trace.now.steps }
+    ensures { IfSome result (λ y. (y < length trace.now.steps) × (slice_index_or live.now y false ≡ true) × Shares trace.now.steps number y) }
 {
-    match sharing_last(rivals, t, intervals, live, n, word, writes) {
+    match sharing_last(rivals, trace, intervals, live, number, word, writes) {
         Some(y) => Some(y),
-        None => sharing_near(rivals, t, intervals, live, n, word),
+        None => sharing_near(rivals, trace, intervals, live, number, word),
     }
 }

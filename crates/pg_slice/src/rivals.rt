@@ -107,7 +107,7 @@ impl Rivals {
         thread: ThreadNo,
         writes: bool,
         turn: usize,
-        n: usize,
+        number: usize,
     ) -> Result<(), AllocError> {
         let start = unpack(word).start;
         let accessor = Accessor {
@@ -115,9 +115,9 @@ impl Rivals {
             thread,
             writes,
         };
-        self.last.insert(accessor, n)?;
+        self.last.insert(accessor, number)?;
         self.stretches
-            .insert(Stretch::behind(turn, word, writes), n)?;
+            .insert(Stretch::behind(turn, word, writes), number)?;
         Ok(())
     }
 

@@ -2,17 +2,17 @@
 
 ghost use Rattle.std.specs.Prelude.{◌<◌, ◌≤◌, length, IfOk, OnOk};
 ghost use Rattle.pg_slice_decisions.specs.Steps.{AreOf, left_by, taken_by};
-ghost use Rattle.pg_slice_passes.specs.Given.{AreGiven};
-ghost use Rattle.pg_slice_passes.specs.Sliced.{IsSliceOf};
+ghost use Rattle.pg_slice_walk.specs.pg_slice_passes.Given.{AreGiven};
+ghost use Rattle.pg_slice_walk.specs.pg_slice_passes.Sliced.{IsSliceOf};
 ghost use Rattle.pg_slice_walk.specs.Chains.{AreOlder};
 ghost use Rattle.pg_slice_walk.specs.Walks.{Widens};
 
 use crate::spread::spread_over;
-use pg_slice_back::{Counts, register_counts};
 use pg_slice_decisions::DecisionSet;
-use pg_slice_passes::{GivenRun, Slice, pass_over, sliced, take_new};
 use pg_slice_walk::holders::holders;
-use pg_slice_walk::widen;
+use pg_slice_walk::pg_slice_back::{Counts, register_counts};
+use pg_slice_walk::pg_slice_passes::{GivenRun, Slice, pass_over, sliced, take_new};
+use pg_slice_walk::{Walk, widen};
 use std::alloc::{AllocError, Global};
 
 /// Takes decisions that each closed set above the present ones has: those for which what has to be known along the run asks.
@@ -21,16 +21,23 @@ fn take_demanded(
     run: &GivenRun,
     holders: &[u32],
     counts: &[Counts],
-    d: &mut DecisionSet,
+    decisions: &mut DecisionSet,
 ) -> Result<(), AllocError>
     requires given { AreGiven run.now.p.now run.now.t.now.steps run.now.intervals.now run.now.r.now }
     requires older { AreOlder holders.now }
-    requires size { AreOf (length run.now.t.now.steps) d.old }
-    ensures size { OnOk result (AreOf (length run.now.t.now.steps) d.new) }
-    ensures left { OnOk result (left_by d.new ≤ left_by d.old) }
-    ensures widens { OnOk result (Widens run.now.p.now run.now.r.now holders.now counts.now run.now.t.now.steps (taken_by d.old) (taken_by d.new)) }
+    requires size { AreOf (length run.now.t.now.steps) decisions.old }
+    ensures size { OnOk result (AreOf (length run.now.t.now.steps) decisions.new) }
+    ensures left { OnOk result (left_by decisions.new ≤ left_by decisions.old) }
+    ensures widens { OnOk result (Widens run.now.p.now run.now.r.now holders.now counts.now run.now.t.now.steps (taken_by decisions.old) (taken_by decisions.new)) }
 {
-    widen(alloc, run.p, run.t, run.r, holders, counts, d)
+    let walk = Walk {
+        program: run.p,
+        trace: run.t,
+        reference: run.r,
+        holders,
+        counts,
+    };
+    widen(alloc, &walk, decisions)
 }
 
 /// Takes decisions that each closed set above the present ones has: those for which what has to be known along the run asks,
@@ -40,19 +47,26 @@ fn take_found(
     run: &GivenRun,
     holders: &[u32],
     counts: &[Counts],
-    d: &mut DecisionSet,
+    decisions: &mut DecisionSet,
 ) -> Result<(), AllocError>
     requires given { AreGiven run.now.p.now run.now.t.now.steps run.now.intervals.now run.now.r.now }
     requires older { AreOlder holders.now }
-    requires size { AreOf (length run.now.t.now.steps) d.old }
-    ensures size { OnOk result (AreOf (length run.now.t.now.steps) d.new) }
-    ensures left { OnOk result (left_by d.new ≤ left_by d.old) }
-    ensures widens { OnOk result (Widens run.now.p.now run.now.r.now holders.now counts.now run.now.t.now.steps (taken_by d.old) (taken_by d.new)) }
+    requires size { AreOf (length run.now.t.now.steps) decisions.old }
+    ensures size { OnOk result (AreOf (length run.now.t.now.steps) decisions.new) }
+    ensures left { OnOk result (left_by decisions.new ≤ left_by decisions.old) }
+    ensures widens { OnOk result (Widens run.now.p.now run.now.r.now holders.now counts.now run.now.t.now.steps (taken_by decisions.old) (taken_by decisions.new)) }
 {
-    widen(alloc, run.p, run.t, run.r, holders, counts, d)?;
-    let took = spread_over(alloc, run, holders, d)?;
+    let walk = Walk {
+        program: run.p,
+        trace: run.t,
+        reference: run.r,
+        holders,
+        counts,
+    };
+    widen(alloc, &walk, decisions)?;
+    let took = spread_over(alloc, run, holders, decisions)?;
     if took {
-        return take_demanded(alloc, run, holders, counts, d);
+        return take_demanded(alloc, run, holders, counts, decisions);
     }
     Ok(())
 }
@@ -73,13 +87,13 @@ pub fn slice(alloc: Global, run: &GivenRun) -> Result<Slice, AllocError>
     let counted = register_counts(alloc, run.p, run.t)?;
     let inner = held.as_slice();
     let counts = counted.as_slice();
-    let mut d = DecisionSet::none(alloc, steps)?;
+    let mut decisions = DecisionSet::none(alloc, steps)?;
     loop {
-        take_found(alloc, run, inner, counts, &mut d)?;
-        let passed = pass_over(alloc, run, &d)?;
+        take_found(alloc, run, inner, counts, &mut decisions)?;
+        let passed = pass_over(alloc, run, &decisions)?;
         let missing = passed.missing.as_slice();
-        if !take_new(&mut d, steps, missing) {
-            return sliced(alloc, &d, passed.precondition);
+        if !take_new(&mut decisions, steps, missing) {
+            return sliced(alloc, &decisions, passed.precondition);
         }
     }
 }

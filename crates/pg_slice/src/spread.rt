@@ -2,14 +2,14 @@
 ghost use Rattle.std.specs.Prelude.{◌≡◌, ◌<◌, ◌≤◌, ℕ, List, true, false, IfOk, OnOk, length, slice_index_or};
 ghost use Rattle.pg_slice_rules.specs.Known as known;
 ghost use Rattle.pg_slice_rules.specs.Known.{Taken};
-ghost use Rattle.pg_slice_rules.specs.declared.decision.Decision.TheVariants as decisions;
-ghost use Rattle.pg_slice_replay.specs.declared.run.ReferenceRun.{ReferenceRun as AReferenceRun};
+ghost use Rattle.pg_slice_rules.specs.declared.decision.Decision.TheVariants as variants;
+ghost use Rattle.pg_slice_walk.specs.pg_slice_replay.declared.run.ReferenceRun.{ReferenceRun as AReferenceRun};
 ghost use Rattle.pg_run_trace.specs.declared.step.Step.{Step as AStep};
 ghost use Rattle.pg_slice_rules.specs.Closed.{AreWithin};
 ghost use Rattle.pg_slice_decisions.specs.Steps.{AreOf, left_by, step_of, taken_by};
 ghost use Rattle.pg_schedule.specs.Intervals.{intervals_of};
 ghost use Rattle.pg_schedule.specs.declared.interval.Turns.TheVariants.{Recorded};
-ghost use Rattle.pg_slice_replay.specs.Kept.{step_count};
+ghost use Rattle.pg_slice_walk.specs.pg_slice_replay.Kept.{step_count};
 ghost use Rattle.pg_slice.specs.Settled.{AreLive, IsAsked, IsOwed, Widens};
 ghost use Rattle.pg_slice_walk.specs.Settled.{ArePinned, AreSettled};
 
@@ -18,12 +18,12 @@ use crate::rivals::Rivals;
 use pg_run_trace::{Step, StepKind};
 use pg_schedule::Interval;
 use pg_slice_decisions::DecisionSet;
-use pg_slice_passes::GivenRun;
-use pg_slice_replay::ReferenceRun;
 use pg_slice_rules::Decision;
 use pg_slice_walk::extents::is_settled;
 use pg_slice_walk::holders::holder_at;
 use pg_slice_walk::marks::{no_marks, set_mark};
+use pg_slice_walk::pg_slice_passes::GivenRun;
+use pg_slice_walk::pg_slice_replay::ReferenceRun;
 use std::alloc::{AllocError, Global};
 
 /// What is found along a run: which steps are live, which branch steps are settled, since they and those in whose extents they
@@ -46,21 +46,27 @@ fn is_branch(step: &Step) -> bool
 }
 
 /// Whether the first rule or the fourth asks that a live step is pinned.
-fn asks_pin(s: &Spread, run: &GivenRun, holders: &[u32], d: &DecisionSet, n: usize) -> bool
-    requires { IsAsked run.now.r.now run.now.intervals.now holders.now run.now.t.now.steps (taken_by d.now) s.now.live.items n }
-    ensures { result ≡ true → IsOwed run.now.r.now holders.now run.now.t.now.steps (taken_by d.now) (decisions.Pinned n) }
+fn asks_pin(
+    s: &Spread,
+    run: &GivenRun,
+    holders: &[u32],
+    decisions: &DecisionSet,
+    number: usize,
+) -> bool
+    requires { IsAsked run.now.r.now run.now.intervals.now holders.now run.now.t.now.steps (taken_by decisions.now) s.now.live.items number }
+    ensures { result ≡ true → IsOwed run.now.r.now holders.now run.now.t.now.steps (taken_by decisions.now) (variants.Pinned number) }
 {
-    let x = run.t.step(n);
-    if d.is_pinned(n) {
+    let step = run.t.step(number);
+    if decisions.is_pinned(number) {
         return false;
     }
-    if !is_branch(&x) {
+    if !is_branch(&step) {
         return false;
     }
-    if !run.r.is_free(n) {
+    if !run.r.is_free(number) {
         return true;
     }
-    match disturbing(&s.rivals, run, s.live.as_slice(), n) {
+    match disturbing(&s.rivals, run, s.live.as_slice(), number) {
         Some(rival) => rival < run.t.len(),
         None => false,
     }
@@ -83,12 +89,18 @@ fn is_store(step: &Step) -> bool {
 }
 
 /// Whether the fifth rule asks that a live step is exact.
-fn asks_exact(s: &Spread, run: &GivenRun, holders: &[u32], d: &DecisionSet, n: usize) -> bool
-    requires { IsAsked run.now.r.now run.now.intervals.now holders.now run.now.t.now.steps (taken_by d.now) s.now.live.items n }
-    ensures { result ≡ true → IsOwed run.now.r.now holders.now run.now.t.now.steps (taken_by d.now) (decisions.Exact n) }
+fn asks_exact(
+    s: &Spread,
+    run: &GivenRun,
+    holders: &[u32],
+    decisions: &DecisionSet,
+    number: usize,
+) -> bool
+    requires { IsAsked run.now.r.now run.now.intervals.now holders.now run.now.t.now.steps (taken_by decisions.now) s.now.live.items number }
+    ensures { result ≡ true → IsOwed run.now.r.now holders.now run.now.t.now.steps (taken_by decisions.now) (variants.Exact number) }
 {
-    let x = run.t.step(n);
-    if d.is_exact(n) {
+    let step = run.t.step(number);
+    if decisions.is_exact(number) {
         return false;
     }
     match sharing(
@@ -96,9 +108,9 @@ fn asks_exact(s: &Spread, run: &GivenRun, holders: &[u32], d: &DecisionSet, n: u
         run.t,
         run.intervals,
         s.live.as_slice(),
-        n,
-        pointer_of(&x),
-        is_store(&x),
+        number,
+        pointer_of(&step),
+        is_store(&step),
     ) {
         Some(rival) => rival < run.t.len(),
         None => false,
@@ -106,16 +118,17 @@ fn asks_exact(s: &Spread, run: &GivenRun, holders: &[u32], d: &DecisionSet, n: u
 }
 
 /// Takes a decision in this case.
-fn take_if(d: &mut DecisionSet, steps: usize, asked: bool, x: Decision)
-    requires size { AreOf steps d.old }
-    requires step { step_of x < steps }
-    ensures size { AreOf steps d.new }
-    ensures kept { AreWithin (taken_by d.old) (taken_by d.new) }
-    ensures left { left_by d.new ≤ left_by d.old }
-    ensures widens { (r : AReferenceRun) (hs : List ℕ) (xs : List AStep) → (asked ≡ true → IsOwed r hs xs (taken_by d.old) x) → Widens r hs xs (taken_by d.old) (taken_by d.new) }
+fn take_if(decisions: &mut DecisionSet, steps: usize, asked: bool, decision: Decision)
+    requires size { AreOf steps decisions.old }
+    requires step { step_of decision < steps }
+    ensures size { AreOf steps decisions.new }
+    ensures kept { AreWithin (taken_by decisions.old) (taken_by decisions.new) }
+    ensures left { left_by decisions.new ≤ left_by decisions.old }
+    ensures widens { (r : AReferenceRun) (hs : List ℕ) (xs : List AStep) → (asked ≡ true → IsOwed r hs xs (taken_by decisions.old) decision)
+        → Widens r hs xs (taken_by decisions.old) (taken_by decisions.new) }
 {
     if asked {
-        d.take(x);
+        decisions.take(decision);
     }
 }
 
@@ -124,27 +137,27 @@ fn note_one(
     rivals: &mut Rivals,
     step: &Step,
     turn: usize,
-    r: &ReferenceRun,
-    n: usize,
+    reference: &ReferenceRun,
+    number: usize,
     k: usize,
 ) -> Result<(), AllocError> {
-    if let Some(access) = r.access(n, k) {
-        rivals.note(access.last, step.thread, access.writes, turn, n)?;
+    if let Some(access) = reference.access(number, k) {
+        rivals.note(access.last, step.thread, access.writes, turn, number)?;
     }
     Ok(())
 }
 
 /// Behind how many turns a step's thread did its last one; 0 where nothing is told of the step.
-fn turn_before(intervals: &[Interval], n: usize) -> usize {
-    match intervals.get(n) {
+fn turn_before(intervals: &[Interval], number: usize) -> usize {
+    match intervals.get(number) {
         Some(interval) => interval.low,
         None => 0,
     }
 }
 
 /// The first pointer of the accesses of a freeable step's region; 0 where there is none.
-fn first_pointer(r: &ReferenceRun, n: usize) -> u64 {
-    match r.access(n, 0) {
+fn first_pointer(reference: &ReferenceRun, number: usize) -> u64 {
+    match reference.access(number, 0) {
         Some(access) => access.last,
         None => 0,
     }
@@ -156,64 +169,70 @@ fn note_region(
     run: &GivenRun,
     step: &Step,
     turn: usize,
-    n: usize,
+    number: usize,
 ) -> Result<(), AllocError> {
-    let count = run.r.access_count(n);
-    if count == 0 || rivals.is_noted(step.thread, step.instr, turn, first_pointer(run.r, n))? {
+    let count = run.r.access_count(number);
+    if count == 0 || rivals.is_noted(step.thread, step.instr, turn, first_pointer(run.r, number))? {
         return Ok(());
     }
     for k in 0..count {
-        note_one(rivals, step, turn, run.r, n, k)?;
+        note_one(rivals, step, turn, run.r, number, k)?;
     }
     Ok(())
 }
 
 /// Notes the bounds of a live step.
-fn note(rivals: &mut Rivals, run: &GivenRun, step: &Step, n: usize) -> Result<(), AllocError> {
-    let turn = turn_before(run.intervals, n);
+fn note(rivals: &mut Rivals, run: &GivenRun, step: &Step, number: usize) -> Result<(), AllocError> {
+    let turn = turn_before(run.intervals, number);
     if let Some(access) = step.access() {
-        rivals.note(access.pointer, step.thread, access.writes, turn, n)?;
+        rivals.note(access.pointer, step.thread, access.writes, turn, number)?;
     }
-    note_region(rivals, run, step, turn, n)
+    note_region(rivals, run, step, turn, number)
 }
 
 /// A step is live.
-fn mark_live(s: &mut Spread, n: usize)
+fn mark_live(s: &mut Spread, number: usize)
     ensures settled { s.new.settled.items ≡ s.old.settled.items }
-    ensures live { (hs : List ℕ) (d : Taken) → ArePinned hs d (slice_index_or hs n 0) → AreLive hs d s.old.live.items → AreLive hs d s.new.live.items }
+    ensures live { (hs : List ℕ) (d : Taken) → ArePinned hs d (slice_index_or hs number 0) → AreLive hs d s.old.live.items → AreLive hs d s.new.live.items }
 {
-    set_mark(&mut s.live, n);
+    set_mark(&mut s.live, number);
 }
 
 /// A live branch step is settled where it is pinned.
-fn mark_settled(s: &mut Spread, d: &DecisionSet, n: usize)
+fn mark_settled(s: &mut Spread, decisions: &DecisionSet, number: usize)
     ensures live { s.new.live.items ≡ s.old.live.items }
-    ensures settled { (hs : List ℕ) → ArePinned hs (taken_by d.now) (slice_index_or hs n 0)
-        → AreSettled hs (taken_by d.now) s.old.settled.items → AreSettled hs (taken_by d.now) s.new.settled.items }
+    ensures settled { (hs : List ℕ) → ArePinned hs (taken_by decisions.now) (slice_index_or hs number 0)
+        → AreSettled hs (taken_by decisions.now) s.old.settled.items → AreSettled hs (taken_by decisions.now) s.new.settled.items }
 {
-    if d.is_pinned(n) {
-        set_mark(&mut s.settled, n);
+    if decisions.is_pinned(number) {
+        set_mark(&mut s.settled, number);
     }
 }
 
 /// Takes what the rules ask of a live step.
-fn take_asked(s: &Spread, run: &GivenRun, holders: &[u32], d: &mut DecisionSet, n: usize)
-    requires asked { IsAsked run.now.r.now run.now.intervals.now holders.now run.now.t.now.steps (taken_by d.old) s.now.live.items n }
-    requires size { AreOf (length run.now.t.now.steps) d.old }
-    ensures size { AreOf (length run.now.t.now.steps) d.new }
-    ensures kept { AreWithin (taken_by d.old) (taken_by d.new) }
-    ensures left { left_by d.new ≤ left_by d.old }
-    ensures widens { Widens run.now.r.now holders.now run.now.t.now.steps (taken_by d.old) (taken_by d.new) }
+fn take_asked(
+    s: &Spread,
+    run: &GivenRun,
+    holders: &[u32],
+    decisions: &mut DecisionSet,
+    number: usize,
+)
+    requires asked { IsAsked run.now.r.now run.now.intervals.now holders.now run.now.t.now.steps (taken_by decisions.old) s.now.live.items number }
+    requires size { AreOf (length run.now.t.now.steps) decisions.old }
+    ensures size { AreOf (length run.now.t.now.steps) decisions.new }
+    ensures kept { AreWithin (taken_by decisions.old) (taken_by decisions.new) }
+    ensures left { left_by decisions.new ≤ left_by decisions.old }
+    ensures widens { Widens run.now.r.now holders.now run.now.t.now.steps (taken_by decisions.old) (taken_by decisions.new) }
 {
-    let pin = asks_pin(s, run, holders, d, n);
-    take_if(d, run.t.len(), pin, Decision::Pinned(n));
-    let exact = asks_exact(s, run, holders, d, n);
-    take_if(d, run.t.len(), exact, Decision::Exact(n));
+    let pin = asks_pin(s, run, holders, decisions, number);
+    take_if(decisions, run.t.len(), pin, Decision::Pinned(number));
+    let exact = asks_exact(s, run, holders, decisions, number);
+    take_if(decisions, run.t.len(), exact, Decision::Exact(number));
 }
 
 /// Whether a decision on a step is taken.
-fn is_taken(d: &DecisionSet, n: usize) -> bool {
-    d.is_pinned(n) || d.is_exact(n)
+fn is_taken(decisions: &DecisionSet, number: usize) -> bool {
+    decisions.is_pinned(number) || decisions.is_exact(number)
 }
 
 /// What the rules ask of a step is taken, where it is live.
@@ -221,30 +240,30 @@ fn spread_step(
     s: &mut Spread,
     run: &GivenRun,
     holders: &[u32],
-    d: &mut DecisionSet,
-    n: usize,
+    decisions: &mut DecisionSet,
+    number: usize,
 ) -> Result<(), AllocError>
     requires count { step_count run.now.r.now ≡ length run.now.t.now.steps }
     requires intervals { run.now.intervals.now ≡ intervals_of Recorded run.now.t.now.steps }
-    requires number { n < length run.now.t.now.steps }
-    requires size { AreOf (length run.now.t.now.steps) d.old }
-    requires live { AreLive holders.now (taken_by d.old) s.old.live.items }
-    requires settled { AreSettled holders.now (taken_by d.old) s.old.settled.items }
-    ensures size { OnOk result (AreOf (length run.now.t.now.steps) d.new) }
-    ensures live { OnOk result (AreLive holders.now (taken_by d.new) s.new.live.items) }
-    ensures settled { OnOk result (AreSettled holders.now (taken_by d.new) s.new.settled.items) }
-    ensures left { OnOk result (left_by d.new ≤ left_by d.old) }
-    ensures widens { OnOk result (Widens run.now.r.now holders.now run.now.t.now.steps (taken_by d.old) (taken_by d.new)) }
+    requires number { number < length run.now.t.now.steps }
+    requires size { AreOf (length run.now.t.now.steps) decisions.old }
+    requires live { AreLive holders.now (taken_by decisions.old) s.old.live.items }
+    requires settled { AreSettled holders.now (taken_by decisions.old) s.old.settled.items }
+    ensures size { OnOk result (AreOf (length run.now.t.now.steps) decisions.new) }
+    ensures live { OnOk result (AreLive holders.now (taken_by decisions.new) s.new.live.items) }
+    ensures settled { OnOk result (AreSettled holders.now (taken_by decisions.new) s.new.settled.items) }
+    ensures left { OnOk result (left_by decisions.new ≤ left_by decisions.old) }
+    ensures widens { OnOk result (Widens run.now.r.now holders.now run.now.t.now.steps (taken_by decisions.old) (taken_by decisions.new)) }
 {
-    if !is_settled(s.settled.as_slice(), holder_at(holders, n)) {
+    if !is_settled(s.settled.as_slice(), holder_at(holders, number)) {
         return Ok(());
     }
-    mark_live(s, n);
-    let was = is_taken(d, n);
-    take_asked(s, run, holders, d, n);
-    mark_settled(s, d, n);
-    s.rivals.tell(is_taken(d, n) != was);
-    note(&mut s.rivals, run, &run.t.step(n), n)?;
+    mark_live(s, number);
+    let was = is_taken(decisions, number);
+    take_asked(s, run, holders, decisions, number);
+    mark_settled(s, decisions, number);
+    s.rivals.tell(is_taken(decisions, number) != was);
+    note(&mut s.rivals, run, &run.t.step(number), number)?;
     Ok(())
 }
 
@@ -253,21 +272,21 @@ fn spread_along(
     s: &mut Spread,
     run: &GivenRun,
     holders: &[u32],
-    d: &mut DecisionSet,
+    decisions: &mut DecisionSet,
 ) -> Result<(), AllocError>
     requires count { step_count run.now.r.now ≡ length run.now.t.now.steps }
     requires intervals { run.now.intervals.now ≡ intervals_of Recorded run.now.t.now.steps }
-    requires size { AreOf (length run.now.t.now.steps) d.old }
-    requires live { AreLive holders.now (taken_by d.old) s.old.live.items }
-    requires settled { AreSettled holders.now (taken_by d.old) s.old.settled.items }
-    ensures size { OnOk result (AreOf (length run.now.t.now.steps) d.new) }
-    ensures live { OnOk result (AreLive holders.now (taken_by d.new) s.new.live.items) }
-    ensures settled { OnOk result (AreSettled holders.now (taken_by d.new) s.new.settled.items) }
-    ensures left { OnOk result (left_by d.new ≤ left_by d.old) }
-    ensures widens { OnOk result (Widens run.now.r.now holders.now run.now.t.now.steps (taken_by d.old) (taken_by d.new)) }
+    requires size { AreOf (length run.now.t.now.steps) decisions.old }
+    requires live { AreLive holders.now (taken_by decisions.old) s.old.live.items }
+    requires settled { AreSettled holders.now (taken_by decisions.old) s.old.settled.items }
+    ensures size { OnOk result (AreOf (length run.now.t.now.steps) decisions.new) }
+    ensures live { OnOk result (AreLive holders.now (taken_by decisions.new) s.new.live.items) }
+    ensures settled { OnOk result (AreSettled holders.now (taken_by decisions.new) s.new.settled.items) }
+    ensures left { OnOk result (left_by decisions.new ≤ left_by decisions.old) }
+    ensures widens { OnOk result (Widens run.now.r.now holders.now run.now.t.now.steps (taken_by decisions.old) (taken_by decisions.new)) }
 {
     for n in 0..run.t.len() {
-        spread_step(s, run, holders, d, n)?;
+        spread_step(s, run, holders, decisions, n)?;
     }
     Ok(())
 }
@@ -292,17 +311,17 @@ pub(crate) fn spread_over(
     alloc: Global,
     run: &GivenRun,
     holders: &[u32],
-    d: &mut DecisionSet,
+    decisions: &mut DecisionSet,
 ) -> Result<bool, AllocError>
     requires count { step_count run.now.r.now ≡ length run.now.t.now.steps }
     requires intervals { run.now.intervals.now ≡ intervals_of Recorded run.now.t.now.steps }
-    requires size { AreOf (length run.now.t.now.steps) d.old }
-    ensures size { OnOk result (AreOf (length run.now.t.now.steps) d.new) }
-    ensures left { OnOk result (left_by d.new ≤ left_by d.old) }
-    ensures widens { OnOk result (Widens run.now.r.now holders.now run.now.t.now.steps (taken_by d.old) (taken_by d.new)) }
+    requires size { AreOf (length run.now.t.now.steps) decisions.old }
+    ensures size { OnOk result (AreOf (length run.now.t.now.steps) decisions.new) }
+    ensures left { OnOk result (left_by decisions.new ≤ left_by decisions.old) }
+    ensures widens { OnOk result (Widens run.now.r.now holders.now run.now.t.now.steps (taken_by decisions.old) (taken_by decisions.new)) }
 {
     let mut s = start(alloc, run.t.len())?;
-    spread_along(&mut s, run, holders, d)?;
-    spread_along(&mut s, run, holders, d)?;
+    spread_along(&mut s, run, holders, decisions)?;
+    spread_along(&mut s, run, holders, decisions)?;
     Ok(s.rivals.took())
 }

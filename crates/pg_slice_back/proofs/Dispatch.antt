@@ -27,9 +27,9 @@ use Rattle.pg_slice_rules.specs.Rules.{has_region}
 use Rattle.pg_law_least.specs.Keeps.{is_branching, may_write}
 use Rattle.pg_law_least.proofs.LikeValues.{Likes}
 use Rattle.pg_law_least.specs.Keeps.{every}
-use Rattle.pg_slice_replay.specs.declared.run.ReferenceRun.{ReferenceRun}
-use Rattle.pg_slice_replay.specs.Kept.{landmark_at}
-use Rattle.pg_slice_replay.specs.Landmarks.{Landmark, landmark_of}
+use Rattle.pg_slice_passes.specs.pg_slice_replay.declared.run.ReferenceRun.{ReferenceRun}
+use Rattle.pg_slice_passes.specs.pg_slice_replay.Kept.{landmark_at}
+use Rattle.pg_slice_passes.specs.pg_slice_replay.Landmarks.{Landmark, landmark_of}
 use Rattle.pg_slice_passes.specs.Given.{is_op}
 use Rattle.pg_law_demands.specs.Cells.{IsMet}
 use Rattle.pg_law_demands.specs.Back.{back_branch, back_edge, back_freed, back_op, byte_demand, fixing, is_target, of_bytes, of_operand, of_optional, of_value, only, register_demand}
@@ -39,7 +39,7 @@ use Rattle.pg_law_demands.proofs.OwnDemands.{pins_own, step_own}
 use Rattle.pg_law_demands.proofs.DemandsBack.{Asks}
 use Rattle.pg_law_demands.proofs.WalkBack.{Closes, closes}
 use Rattle.pg_slice_demands.specs.declared.demanded.Demanded.{Demanded}
-use Rattle.pg_slice_back.specs.declared.call.Call.{Call}
+use Rattle.pg_slice_demands.specs.declared.call.Call.{Call}
 use Rattle.pg_slice_back.specs.declared.registers.Counts.{Counts}
 use Rattle.pg_slice_back.specs.Edges.{edge_sets, held_by, sets_result, takes_edge}
 use Rattle.pg_slice_back.specs.Arguments.{is_putchar}
@@ -76,7 +76,7 @@ module _ (R : Reference) (e : Taken) (p : NumberedProgram) (r : ReferenceRun) (x
   kind_is : (c : StepKind) → step.kind ≡ c → m.did.did.kind ≡ c
   kind_is c q = ap (λ (z : Step). z.kind) st.did ∙ q
 
-  pub call_is : (at : Call) → at.thread ≡ step.thread.0 → IfSome (landmark_at r n) (λ (l : Landmark). at.depth ≡ l.depth) → IsCallOf m at
+  pub call_is : (at : Call) → at.thread.0 ≡ step.thread.0 → IfSome (landmark_at r n) (λ (l : Landmark). at.depth ≡ l.depth) → IsCallOf m at
   call_is at q h = record {
     thread = q ∙ ap (λ (z : Step). z.thread.0) (sym st.did);
     depth = if_some (λ (l : Landmark). at.depth ≡ l.depth) (landmark_at r n) (landmark_of R.program R.regions m) landmark_is h;
@@ -121,10 +121,10 @@ module _ (R : Reference) (e : Taken) (p : NumberedProgram) (r : ReferenceRun) (x
   -- ---- by its call
 
   module _ (at : Call) (call : IsCallOf m at) where
-    at_call : (P : ℕ → ℕ → Type 0) → P at.thread at.depth → P t k
+    at_call : (P : ℕ → ℕ → Type 0) → P at.thread.0 at.depth → P t k
     at_call P h = subst (λ (k : ℕ). P t k) call.depth (subst (λ (t : ℕ). P t at.depth) call.thread h)
 
-    of_call : (P : ℕ → ℕ → Type 0) → P t k → P at.thread at.depth
+    of_call : (P : ℕ → ℕ → Type 0) → P t k → P at.thread.0 at.depth
     of_call P h = subst (λ (t : ℕ). P t at.depth) (sym call.thread) (subst (λ (k : ℕ). P t k) (sym call.depth) h)
 
     -- an access
@@ -134,8 +134,8 @@ module _ (R : Reference) (e : Taken) (p : NumberedProgram) (r : ReferenceRun) (x
       is_access = kind_is (kinds.Access a) kind
 
       pub load_back : (w : Width) (from : Value) → x.op ≡ op.Load w from → (target : Option ℕ) → target ≡ held_by x.result counts.present → (o : Option Decision) →
-          ((e : Taken) (after before : SymbolicState) → Leaves at.thread at.depth (is_target target) none after before →
-          ((i : ℕ) (v : Bool) → target ≡ Some i → IsMet after (register_demand at.thread at.depth i v)
+          ((e : Taken) (after before : SymbolicState) → Leaves at.thread.0 at.depth (is_target target) none after before →
+          ((i : ℕ) (v : Bool) → target ≡ Some i → IsMet after (register_demand at.thread.0 at.depth i v)
           → AllByRecursion (IsMet before) (of_bytes (range_of a).start a.bytes) × (e.exact n ≡ true)) →
           AreMet after old → AreMet before new × IfSome o (λ (z : Decision). has e z ≡ true)) → AreMet after old → AreMet s new × IfSome o (λ (z : Decision). has e z ≡ true)
       load_back w from is target q o h =
@@ -145,8 +145,8 @@ module _ (R : Reference) (e : Taken) (p : NumberedProgram) (r : ReferenceRun) (x
           (λ i v f g. load_moves R e p r x step counts n m st a is_access w from is i v (sym q ∙ f) (at_call (λ t k. IsMet after (register_demand t k i v)) g))
 
       pub store_back : (w : Width) (v to : Value) → x.op ≡ op.Store w v to → (o : Option Decision) →
-          ((e : Taken) (after before : SymbolicState) → Leaves at.thread at.depth none (is_within (range_of a)) after before →
-          ((b : ℕ) → is_within (range_of a) b ≡ true → IsMet after (byte_demand b true) → AllByRecursion (IsMet before) (of_value at.thread at.depth true v)) →
+          ((e : Taken) (after before : SymbolicState) → Leaves at.thread.0 at.depth none (is_within (range_of a)) after before →
+          ((b : ℕ) → is_within (range_of a) b ≡ true → IsMet after (byte_demand b true) → AllByRecursion (IsMet before) (of_value at.thread.0 at.depth true v)) →
           ((b : ℕ) → (is_within (range_of a) b || is_within (bounds_of a.pointer) b) ≡ true → a.event ≡ false → IsMet after (byte_demand b true) → e.exact n ≡ true) →
           AreMet after old → AreMet before new × IfSome o (λ (z : Decision). has e z ≡ true)) → AreMet after old → AreMet s new × IfSome o (λ (z : Decision). has e z ≡ true)
       store_back w v to is o h =
@@ -155,20 +155,20 @@ module _ (R : Reference) (e : Taken) (p : NumberedProgram) (r : ReferenceRun) (x
           (λ b f g. of_call (λ t k. AllByRecursion (IsMet s) (of_value t k true v)) (store_moves R e p r x step counts n m st a is_access w v to is b f g))
           (λ b f v' g. store_fixes R e p r x step counts n m st a is_access w v to is b f v' g)
 
-      pub access_back : Without at.thread at.depth (is_target x.result) (is_within (range_of a)) old new → AreMet after old → AreMet s new
-      access_back w = without_met at.thread at.depth (is_target x.result) (is_within (range_of a)) after s old new
+      pub access_back : Without at.thread.0 at.depth (is_target x.result) (is_within (range_of a)) old new → AreMet after old → AreMet s new
+      access_back w = without_met at.thread.0 at.depth (is_target x.result) (is_within (range_of a)) after s old new
           (of_call (λ t k. Leaves t k (is_target x.result) (is_within (range_of a)) after s) (access_leaves R e p r x step counts n m st a is_access)) w
 
     -- an event
 
     pub event_back : (v : Event) → step.kind ≡ kinds.Event v → (old new : Demanded) →
-        Without at.thread (event_depth at.depth v.kind) (event_sets x.result v.kind) (event_writes v.write) old new → AreMet after old → AreMet s new
-    event_back v kind old new w = without_met at.thread (event_depth at.depth v.kind) (event_sets x.result v.kind) (event_writes v.write) after s old new
+        Without at.thread.0 (event_depth at.depth v.kind) (event_sets x.result v.kind) (event_writes v.write) old new → AreMet after old → AreMet s new
+    event_back v kind old new w = without_met at.thread.0 (event_depth at.depth v.kind) (event_sets x.result v.kind) (event_writes v.write) after s old new
         (of_call (λ t k. Leaves t (event_depth k v.kind) (event_sets x.result v.kind) (event_writes v.write) after s) (event_leaves R e p r x step counts n m st v (kind_is (kinds.Event v) kind))) w
 
     pub print_back : (v : Event) → step.kind ≡ kinds.Event v → is_putchar v.kind ≡ true → (i : ℕ) (w : Bool)
-        → held_by x.result counts.present ≡ Some i → IsMet after (register_demand at.thread at.depth i w) →
-        AllByRecursion (IsMet s) (of_operand at.thread at.depth true x.op 0)
+        → held_by x.result counts.present ≡ Some i → IsMet after (register_demand at.thread.0 at.depth i w) →
+        AllByRecursion (IsMet s) (of_operand at.thread.0 at.depth true x.op 0)
     print_back v kind q i w f h = of_call (λ t k. AllByRecursion (IsMet s) (of_operand t k true x.op 0))
         (print_moves R e p r x step counts n m st v (kind_is (kinds.Event v) kind) q i w f (at_call (λ t k. IsMet after (register_demand t k i w)) h))
 
@@ -182,9 +182,9 @@ module _ (R : Reference) (e : Taken) (p : NumberedProgram) (r : ReferenceRun) (x
       edge_here edge h = if_some (λ (l : Landmark). edge ≡ l.edge) (landmark_at r n) (landmark_of R.program R.regions m) landmark_is h ∙ edge_is R e p r x step counts n m st is_that
 
       pub edge_back : takes_edge x.op ≡ true → (edge : Option ℕ) → IfSome (landmark_at r n) (λ (l : Landmark). edge ≡ l.edge) →
-          ((after before : SymbolicState) → Leaves at.thread at.depth (edge_sets p edge) none after before →
-          ((i : ℕ) (v : Bool) → i < counts.present → IsMet after (register_demand at.thread at.depth i v)
-          → AllByRecursion (IsMet before) (back_edge p at.thread at.depth x.block.0 edge i v)) →
+          ((after before : SymbolicState) → Leaves at.thread.0 at.depth (edge_sets p edge) none after before →
+          ((i : ℕ) (v : Bool) → i < counts.present → IsMet after (register_demand at.thread.0 at.depth i v)
+          → AllByRecursion (IsMet before) (back_edge p at.thread.0 at.depth x.block.0 edge i v)) →
           AreMet after old → AreMet before new) → AreMet after old → AreMet s new
       edge_back f edge h g =
           g after s
@@ -197,9 +197,9 @@ module _ (R : Reference) (e : Taken) (p : NumberedProgram) (r : ReferenceRun) (x
           (edge_op_moves R e p r x step counts n m st is_that f i v l (at_call (λ t k. IsMet after (register_demand t k i v)) z)))))
 
       pub call_back : (g : ℕ) (args : List Value) → x.op ≡ op.Call g args →
-          ((after before : SymbolicState) → Leaves at.thread at.depth none none after before →
-          ((i : ℕ) (z : Value) (b : Bool) → slice_get args i ≡ Some z → IsMet after (register_demand at.thread (suc at.depth) i b)
-          → AllByRecursion (IsMet before) (of_value at.thread at.depth b z)) →
+          ((after before : SymbolicState) → Leaves at.thread.0 at.depth none none after before →
+          ((i : ℕ) (z : Value) (b : Bool) → slice_get args i ≡ Some z → IsMet after (register_demand at.thread.0 (suc at.depth) i b)
+          → AllByRecursion (IsMet before) (of_value at.thread.0 at.depth b z)) →
           AreMet after old → AreMet before new) → AreMet after old → AreMet s new
       call_back g args is h =
           h after s (of_call (λ t k. Leaves t k none none after s) (call_leaves R e p r x step counts n m st is_that g args is))
@@ -211,9 +211,9 @@ module _ (R : Reference) (e : Taken) (p : NumberedProgram) (r : ReferenceRun) (x
 
       pub return_back : (v : Option Value) → x.op ≡ op.Ret v → (found target : Option ℕ)
           → IfSome (landmark_at r n) (λ (l : Landmark). found ≡ l.target) → target ≡ held_by found counts.under →
-          ((after before : SymbolicState) → Leaves at.thread (at.depth - 1) (is_target target) none after before →
-          ((i : ℕ) (w : Bool) → target ≡ Some i → IsMet after (register_demand at.thread (at.depth - 1) i w) → 0 < at.depth
-          → AllByRecursion (IsMet before) (of_optional at.thread at.depth w v)) →
+          ((after before : SymbolicState) → Leaves at.thread.0 (at.depth - 1) (is_target target) none after before →
+          ((i : ℕ) (w : Bool) → target ≡ Some i → IsMet after (register_demand at.thread.0 (at.depth - 1) i w) → 0 < at.depth
+          → AllByRecursion (IsMet before) (of_optional at.thread.0 at.depth w v)) →
           AreMet after old → AreMet before new) → AreMet after old → AreMet s new
       return_back v is found target f g h =
           let q : target ≡ held_by (caller_target R.program m.calls) counts.under = g ∙ ap (λ (o : Option ℕ). held_by o counts.under) (target_is found f) in
@@ -224,8 +224,8 @@ module _ (R : Reference) (e : Taken) (p : NumberedProgram) (r : ReferenceRun) (x
           (return_moves R e p r x step counts n m st is_that v is i w (sym q ∙ z) (at_call (λ t k. IsMet after (register_demand t (k - 1) i w)) y) (at_call (λ t k. 0 < k) l)))
 
       pub result_back : sets_result x.op ≡ true → (target : Option ℕ) → target ≡ held_by x.result counts.present →
-          ((after before : SymbolicState) → Leaves at.thread at.depth (is_target target) none after before →
-          ((i : ℕ) (v : Bool) → target ≡ Some i → IsMet after (register_demand at.thread at.depth i v) → AllByRecursion (IsMet before) (made_by at.thread at.depth x.op v)) →
+          ((after before : SymbolicState) → Leaves at.thread.0 at.depth (is_target target) none after before →
+          ((i : ℕ) (v : Bool) → target ≡ Some i → IsMet after (register_demand at.thread.0 at.depth i v) → AllByRecursion (IsMet before) (made_by at.thread.0 at.depth x.op v)) →
           AreMet after old → AreMet before new) → AreMet after old → AreMet s new
       result_back f target q h =
           h after s
@@ -235,8 +235,8 @@ module _ (R : Reference) (e : Taken) (p : NumberedProgram) (r : ReferenceRun) (x
           ∙ g) (at_call (λ t k. IsMet after (register_demand t k i v)) y)))
 
       -- what lies in calls of other threads
-      pub thread_back : Without at.thread 0 all none old new → AreMet after old → AreMet s new
-      thread_back w = without_met at.thread 0 all none after s old new
+      pub thread_back : Without at.thread.0 0 all none old new → AreMet after old → AreMet s new
+      thread_back w = without_met at.thread.0 0 all none after s old new
           (subst (λ (t : ℕ). Leaves t 0 all none after s) (sym call.thread) (thread_leaves R e p r x step counts n m st none (bytes_same R e p r x step counts n m st is_that) all (λ i. refl))) w
 
     -- a branch
@@ -275,24 +275,24 @@ module _ (R : Reference) (e : Taken) (p : NumberedProgram) (r : ReferenceRun) (x
           go true f h = h.1.0
           go false f h = absurd (true≢false (sym f))
 
-      region_pinned : (o : Option FreeRegion) → region ≡ o → AsksRegion o at.thread at.depth counts.present old → e.pinned n ≡ true
+      region_pinned : (o : Option FreeRegion) → region ≡ o → AsksRegion o at.thread.0 at.depth counts.present old → e.pinned n ≡ true
       region_pinned None is h = absurd h
       region_pinned (Some q) is (inl h) =
-          let f : IsMet after (register_demand t k h.0 h.1) = at_call (λ t k. IsMet after (register_demand t k h.0 h.1)) (met.registers at.thread at.depth h.0 h.1 h.4) in
+          let f : IsMet after (register_demand t k h.0 h.1) = at_call (λ t k. IsMet after (register_demand t k h.0 h.1)) (met.registers at.thread.0 at.depth h.0 h.1 h.4) in
           set_pinned q is x.op (st.keeps.branches (live.y R e p r x step counts n m st) (live.here R e p r x step counts n m st).in_run q is x st.instr) h.0 h.1 h.3
           (top_back R e p r x step counts n m st this_op h.0 h.1 h.2 f)
       region_pinned (Some q) is (inr h) = freed_pinned region q is h.0 h.1 (freed_back R e p r x step counts n m st this_op h.0 (met.bytes h.0 h.2))
 
-      pinned : (region ≡ None) ⊎ AsksRegion region at.thread at.depth counts.present old → e.pinned n ≡ true
+      pinned : (region ≡ None) ⊎ AsksRegion region at.thread.0 at.depth counts.present old → e.pinned n ≡ true
       pinned (inl q) = bound branch q
       pinned (inr h) = region_pinned region refl h
 
-      pin_back : (o : Option Decision) → IfSome o (λ (z : Decision). IsPinDue region n at.thread at.depth counts.present old z) → IfSome o (λ (z : Decision). has e z ≡ true)
+      pin_back : (o : Option Decision) → IfSome o (λ (z : Decision). IsPinDue region n at.thread.0 at.depth counts.present old z) → IfSome o (λ (z : Decision). has e z ≡ true)
       pin_back None h = tt
       pin_back (Some z) h = subst (λ (z : Decision). has e z ≡ true) (sym h.0) (pinned h.1)
 
-      pub due_back : (o : Option Decision) → IfSome (landmark_at r n) (λ (l : Landmark). IfSome o (λ (z : Decision). IsPinDue l.region n at.thread at.depth counts.present old z)) →
+      pub due_back : (o : Option Decision) → IfSome (landmark_at r n) (λ (l : Landmark). IfSome o (λ (z : Decision). IsPinDue l.region n at.thread.0 at.depth counts.present old z)) →
           IfSome o (λ (z : Decision). has e z ≡ true)
       due_back o h =
-          pin_back o (if_some (λ (l : Landmark). IfSome o (λ (z : Decision). IsPinDue l.region n at.thread at.depth counts.present old z))
+          pin_back o (if_some (λ (l : Landmark). IfSome o (λ (z : Decision). IsPinDue l.region n at.thread.0 at.depth counts.present old z))
           (landmark_at r n) (landmark_of R.program R.regions m) landmark_is h)

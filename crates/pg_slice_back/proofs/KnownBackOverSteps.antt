@@ -15,7 +15,7 @@ use Rattle.pg_law_least.proofs.AlikeLists.{length_like}
 use Rattle.pg_law_least.proofs.LikeValues.{Likes}
 use Rattle.pg_law_least.proofs.LiveSteps.{CallsLike, top_like}
 use Rattle.pg_law_least.proofs.LiveStepsInside.{none_above}
-use Rattle.pg_slice_replay.specs.declared.run.ReferenceRun.{ReferenceRun}
+use Rattle.pg_slice_passes.specs.pg_slice_replay.declared.run.ReferenceRun.{ReferenceRun}
 use Rattle.pg_law_demands.specs.Along.{known_at}
 use Rattle.pg_law_demands.specs.Cells.{Demand, IsMet, call_at, is_met}
 use Rattle.pg_law_demands.specs.Back.{Asked, back, back_byte, back_cell, back_other, back_top, byte_demand, caller_count, only, register_count, register_demand}

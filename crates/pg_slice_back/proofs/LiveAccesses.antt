@@ -18,7 +18,7 @@ use Rattle.pg_slice_rules.specs.Moments.{Moment}
 use Rattle.pg_slice_rules.specs.Freeable.{bounds_of}
 use Rattle.pg_slice_rules.specs.SymbolicValues.{is_within}
 use Rattle.pg_slice_rules.specs.Known.{Reference, SymbolicState, Taken}
-use Rattle.pg_slice_replay.specs.declared.run.ReferenceRun.{ReferenceRun}
+use Rattle.pg_slice_passes.specs.pg_slice_replay.declared.run.ReferenceRun.{ReferenceRun}
 use Rattle.pg_law_demands.specs.Cells.{Demand, IsMet}
 use Rattle.pg_law_demands.specs.Back.{Asked, back_access, back_byte, back_other, back_store, back_top, byte_demand, caller_count, if_plain, if_set, is_target, of_bytes, of_value, only}
 use Rattle.pg_law_demands.specs.Back.{register_count, register_demand}

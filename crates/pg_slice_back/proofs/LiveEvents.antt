@@ -16,7 +16,7 @@ use Rattle.pg_run_trace.specs.Steps.{range_of, write_by}
 use Rattle.pg_slice_rules.specs.Moments.{Moment}
 use Rattle.pg_slice_rules.specs.SymbolicValues.{is_within}
 use Rattle.pg_slice_rules.specs.Known.{Reference, Taken, function_in}
-use Rattle.pg_slice_replay.specs.declared.run.ReferenceRun.{ReferenceRun}
+use Rattle.pg_slice_passes.specs.pg_slice_replay.declared.run.ReferenceRun.{ReferenceRun}
 use Rattle.pg_law_demands.specs.Cells.{IsMet, Word}
 use Rattle.pg_law_demands.specs.Back.{back_byte, back_event, back_other, back_other_event, back_start, back_top, back_write, back_written, byte_demand, caller_count, is_target, of_operand, only}
 use Rattle.pg_law_demands.specs.Back.{register_demand}

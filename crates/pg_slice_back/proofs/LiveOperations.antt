@@ -21,7 +21,7 @@ use Rattle.pg_slice_rules.specs.Freeable.{FreeRegion}
 use Rattle.pg_slice_rules.specs.Extents.{edge_by, edge_in}
 use Rattle.pg_slice_rules.specs.Known.{Reference, Taken, caller_target, edge_of}
 use Rattle.pg_law_least.specs.Keeps.{MaySetPhis, may_write}
-use Rattle.pg_slice_replay.specs.declared.run.ReferenceRun.{ReferenceRun}
+use Rattle.pg_slice_passes.specs.pg_slice_replay.declared.run.ReferenceRun.{ReferenceRun}
 use Rattle.pg_slice_passes.specs.Given.{is_op}
 use Rattle.pg_law_demands.specs.Cells.{Demand, IsMet}
 use Rattle.pg_law_demands.specs.Back.{back_branch, back_byte, back_edge, back_freed, back_known, back_moved, back_op, back_other, back_other_op, back_phi, back_return, back_top, byte_demand}

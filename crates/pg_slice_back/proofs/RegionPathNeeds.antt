@@ -10,10 +10,10 @@ use Rattle.pg_slice_rules.specs.Freeable.{FreeRegion}
 use Rattle.pg_slice_rules.specs.Known.{SymbolicState, Seen}
 use Rattle.pg_slice_rules.specs.Moments.{thread_in}
 use Rattle.pg_law_least.specs.Keeps.{depth_of}
-use Rattle.pg_slice_replay.specs.declared.run.FreeAccess as declared
-use Rattle.pg_slice_replay.specs.Given.{access_as}
-use Rattle.pg_slice_replay.specs.Landmarks.{Landmark}
-use Rattle.pg_slice_replay.specs.Paths.{cell_of, cells_of}
+use Rattle.pg_slice_passes.specs.pg_slice_replay.declared.run.FreeAccess as declared
+use Rattle.pg_slice_passes.specs.pg_slice_replay.Given.{access_as}
+use Rattle.pg_slice_passes.specs.pg_slice_replay.Landmarks.{Landmark}
+use Rattle.pg_slice_passes.specs.pg_slice_replay.Paths.{cell_of, cells_of}
 use Rattle.pg_law_demands.specs.Cells.{Demand, IsMet}
 use Rattle.pg_law_demands.specs.Back.{of_bytes, register_demand}
 use Rattle.pg_law_demands.specs.Demands.{path_demands, root_demands}

@@ -6,9 +6,9 @@ use Rattle.std.proofs.lemmas.Bool.{cases_lt}
 use Rattle.pg_slice_rules.specs.Freeable.{FreeAccess, FreeRegion, bounds_of}
 use Rattle.pg_slice_rules.specs.SymbolicValues.{is_within}
 use Rattle.pg_law_least.specs.Keeps.{may_write}
-use Rattle.pg_slice_replay.specs.declared.run.FreeAccess as declared
-use Rattle.pg_slice_replay.specs.Given.{access_as}
-use Rattle.pg_slice_replay.specs.Landmarks.{Landmark}
+use Rattle.pg_slice_passes.specs.pg_slice_replay.declared.run.FreeAccess as declared
+use Rattle.pg_slice_passes.specs.pg_slice_replay.Given.{access_as}
+use Rattle.pg_slice_passes.specs.pg_slice_replay.Landmarks.{Landmark}
 use Rattle.pg_slice_demands.specs.Asked.{asked_of, asks_byte}
 use Rattle.pg_slice_demands.specs.declared.demanded.Demanded.{Demanded}
 use Rattle.pg_slice_back.specs.Sets.{AsksByte, AsksOfAccess}

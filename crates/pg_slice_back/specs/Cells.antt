@@ -2,7 +2,7 @@
 use Rattle.std.specs.Prelude.{◌≡◌, ℕ, List, Some, slice_get}
 use Rattle.std.specs.List.{AllByRecursion}
 use Rattle.pg_slice_rules.specs.Known.{SymbolicState}
-use Rattle.pg_slice_replay.specs.Paths.{cell_of}
+use Rattle.pg_slice_passes.specs.pg_slice_replay.Paths.{cell_of}
 use Rattle.pg_law_demands.specs.Cells.{IsMet}
 use Rattle.pg_law_demands.specs.Back.{of_bytes}
 

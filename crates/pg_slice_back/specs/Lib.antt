@@ -13,3 +13,8 @@ pub mod Sets
 pub mod Arguments
 pub mod Cells
 pub mod Owed
+pub use Rattle.pg_law_demands.specs as pg_law_demands
+pub use Rattle.pg_law_least.specs as pg_law_least
+pub use Rattle.pg_slice_passes.specs.pg_slice_decisions
+pub use Rattle.pg_slice_passes.specs as pg_slice_passes
+pub use Rattle.pg_slice_passes.specs.pg_slice_replay

@@ -9,9 +9,9 @@ use Rattle.pg_slice_rules.specs.Known.{Reference, Taken, thread_of}
 use Rattle.pg_slice_rules.specs.Moments.{Moment, instr_in, thread_in}
 use Rattle.pg_law_least.specs.Keeps.{ExtentsKeep, every}
 use Rattle.pg_law_demands.specs.Along.{known_at}
-use Rattle.pg_slice_replay.specs.declared.run.ReferenceRun.{ReferenceRun}
+use Rattle.pg_slice_passes.specs.pg_slice_replay.declared.run.ReferenceRun.{ReferenceRun}
 use Rattle.pg_slice_passes.specs.Given.{HasLandmarks}
-use Rattle.pg_slice_back.specs.declared.call.Call.{Call}
+use Rattle.pg_slice_demands.specs.declared.call.Call.{Call}
 use Rattle.pg_slice_back.specs.declared.registers.Counts.{Counts}
 use Rattle.pg_slice_back.specs.Counted.{IsCounted}
 
@@ -30,5 +30,5 @@ pub record IsLiveStep (R : Reference) (e : Taken) (p : NumberedProgram) (r : Ref
 
 -- the call that does the step
 pub record IsCallOf (m : Moment) (at : Call) : Type 0 where
-  pub thread : at.thread ≡ thread_in m
+  pub thread : at.thread.0 ≡ thread_in m
   pub depth : at.depth ≡ length m.calls

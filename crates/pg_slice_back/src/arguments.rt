@@ -17,13 +17,12 @@ ghost use Rattle.pg_slice_rules.specs.Known.{Taken};
 ghost use Rattle.pg_slice_back.specs.Arguments.{is_start};
 ghost use Rattle.pg_slice_back.specs.Met.{AreMet};
 
-use crate::call::Call;
 use crate::moves::put_optional;
 use pg_ir::{Instr, LibraryCall, Op, Value};
 use pg_run_trace::{Event, TurnKind, Write};
-use pg_slice_checks::checked_of;
-use pg_slice_demands::Demanded;
+use pg_slice_demands::{Call, Demanded};
 use pg_slice_passes::is_malloc;
+use pg_slice_passes::pg_slice_checks::checked_of;
 use std::alloc::AllocError;
 
 /// The value with this number, if there is one.
@@ -49,26 +48,26 @@ fn argument(op: &Op, i: usize) -> Option<Value>
 ///
 /// Where no memory is left.
 pub fn put_argument(
-    w: &mut Demanded,
+    demanded: &mut Demanded,
     at: Call,
     op: &Op,
     i: usize,
     whole: bool,
 ) -> Result<(), AllocError>
-    ensures { OnOk result ((s : SymbolicState) → AllByRecursion (IsMet s) (of_operand at.thread at.depth whole op.now i) → AreMet s w.old → AreMet s w.new) }
+    ensures { OnOk result ((s : SymbolicState) → AllByRecursion (IsMet s) (of_operand at.thread.0 at.depth whole op.now i) → AreMet s demanded.old → AreMet s demanded.new) }
 {
-    put_optional(w, at, argument(op, i), whole)?;
+    put_optional(demanded, at, argument(op, i), whole)?;
     Ok(())
 }
 
 /// The operands of an event that are checked have to be known.
-fn put_checked(w: &mut Demanded, at: Call, x: &Instr) -> Result<(), AllocError>
-    ensures { OnOk result ((s : SymbolicState) (y : Seen) → thread_in y.moment ≡ at.thread → depth_of y ≡ at.depth
-        → AllByRecursion (IsMet s) (all_of (operand_demands y x.now true) (rules.checked_of x.now.op))
-        → AreMet s w.old → AreMet s w.new) }
+fn put_checked(demanded: &mut Demanded, at: Call, instr: &Instr) -> Result<(), AllocError>
+    ensures { OnOk result ((s : SymbolicState) (y : Seen) → thread_in y.moment ≡ at.thread.0 → depth_of y ≡ at.depth
+        → AllByRecursion (IsMet s) (all_of (operand_demands y instr.now true) (rules.checked_of instr.now.op))
+        → AreMet s demanded.old → AreMet s demanded.new) }
 {
-    for i in 0..checked_of(&x.op) {
-        put_argument(w, at, &x.op, i, true)?;
+    for i in 0..checked_of(&instr.op) {
+        put_argument(demanded, at, &instr.op, i, true)?;
     }
     Ok(())
 }
@@ -84,14 +83,19 @@ fn is_start(kind: TurnKind) -> bool
 }
 
 /// What an event asks that calls a function: a start asks for nothing.
-fn put_called(w: &mut Demanded, at: Call, x: &Instr, kind: TurnKind) -> Result<(), AllocError>
-    ensures { OnOk result ((s : SymbolicState) (y : Seen) → thread_in y.moment ≡ at.thread → depth_of y ≡ at.depth
-        → AllByRecursion (IsMet s) (checked_demands y x.now kind) → AreMet s w.old → AreMet s w.new) }
+fn put_called(
+    demanded: &mut Demanded,
+    at: Call,
+    instr: &Instr,
+    kind: TurnKind,
+) -> Result<(), AllocError>
+    ensures { OnOk result ((s : SymbolicState) (y : Seen) → thread_in y.moment ≡ at.thread.0 → depth_of y ≡ at.depth
+        → AllByRecursion (IsMet s) (checked_demands y instr.now kind) → AreMet s demanded.old → AreMet s demanded.new) }
 {
     if is_start(kind) {
         return Ok(());
     }
-    put_checked(w, at, x)?;
+    put_checked(demanded, at, instr)?;
     Ok(())
 }
 
@@ -113,17 +117,17 @@ fn write_index(op: &Op) -> usize
 
 /// The bounds of the address have to be known to which an event writes, if it writes.
 fn put_written(
-    w: &mut Demanded,
+    demanded: &mut Demanded,
     at: Call,
-    x: &Instr,
+    instr: &Instr,
     write: Option<Write>,
 ) -> Result<(), AllocError>
-    ensures { OnOk result ((s : SymbolicState) (y : Seen) → thread_in y.moment ≡ at.thread → depth_of y ≡ at.depth
-        → AllByRecursion (IsMet s) (write_demands y x.now (access_by write)) → AreMet s w.old → AreMet s w.new) }
+    ensures { OnOk result ((s : SymbolicState) (y : Seen) → thread_in y.moment ≡ at.thread.0 → depth_of y ≡ at.depth
+        → AllByRecursion (IsMet s) (write_demands y instr.now (access_by write)) → AreMet s demanded.old → AreMet s demanded.new) }
 {
     match write {
         Some(_) => {
-            put_argument(w, at, &x.op, write_index(&x.op), false)?;
+            put_argument(demanded, at, &instr.op, write_index(&instr.op), false)?;
             Ok(())
         }
         None => Ok(()),
@@ -131,22 +135,28 @@ fn put_written(
 }
 
 /// What an event asks: its operands that are checked, and the bounds of the address to which it writes.
-pub(crate) fn put_event(w: &mut Demanded, at: Call, x: &Instr, e: &Event) -> Result<(), AllocError>
-    ensures { OnOk result ((d : Taken) (s : SymbolicState) (y : Seen) → thread_in y.moment ≡ at.thread → depth_of y ≡ at.depth
-        → AllByRecursion (IsMet s) (kind_demands d y x.now (kinds.Event e.now))
-        → AreMet s w.old → AreMet s w.new) }
+pub(crate) fn put_event(
+    demanded: &mut Demanded,
+    at: Call,
+    instr: &Instr,
+    event: &Event,
+) -> Result<(), AllocError>
+    ensures { OnOk result ((d : Taken) (s : SymbolicState) (y : Seen) → thread_in y.moment ≡ at.thread.0 → depth_of y ≡ at.depth
+        → AllByRecursion (IsMet s) (kind_demands d y instr.now (kinds.Event event.now))
+        → AreMet s demanded.old → AreMet s demanded.new) }
 {
-    put_called(w, at, x, e.kind)?;
-    put_written(w, at, x, e.write)?;
+    put_called(demanded, at, instr, event.kind)?;
+    put_written(demanded, at, instr, event.write)?;
     Ok(())
 }
 
 /// What an allocation asks: the size of a `malloc`.
-pub(crate) fn put_size(w: &mut Demanded, at: Call, op: &Op) -> Result<(), AllocError>
-    ensures { OnOk result ((s : SymbolicState) → AllByRecursion (IsMet s) (if rules.is_malloc op.now then of_operand at.thread at.depth true op.now 0 else []) → AreMet s w.old → AreMet s w.new) }
+pub(crate) fn put_size(demanded: &mut Demanded, at: Call, op: &Op) -> Result<(), AllocError>
+    ensures { OnOk result ((s : SymbolicState) → AllByRecursion (IsMet s) (if rules.is_malloc op.now then of_operand at.thread.0 at.depth true op.now 0 else [])
+        → AreMet s demanded.old → AreMet s demanded.new) }
 {
     if is_malloc(op) {
-        put_argument(w, at, op, 0, true)?;
+        put_argument(demanded, at, op, 0, true)?;
         return Ok(());
     }
     Ok(())

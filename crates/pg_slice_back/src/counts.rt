@@ -10,7 +10,7 @@ ghost use Rattle.pg_slice_back.specs.Stacks.{AreStacks, IsStack};
 
 use pg_ir::{Instr, Op, Program};
 use pg_run_trace::{Step, StepKind, TurnKind};
-use pg_slice_registers::register_count;
+use pg_slice_passes::pg_slice_registers::register_count;
 use std::alloc::{AllocError, Global};
 
 /// A call: how many registers it has, and the number behind that of the call under it; 0 where there is none.
@@ -55,28 +55,28 @@ fn under(held: &[Held], h: usize) -> usize
 }
 
 /// How many registers a call begins with, that is handed so many arguments.
-fn entered(p: &Program, f: u32, arguments: usize) -> usize
-    ensures { result ≡ arguments + (length (types_of p.now f) - arguments) }
+fn entered(program: &Program, f: u32, arguments: usize) -> usize
+    ensures { result ≡ arguments + (length (types_of program.now f) - arguments) }
 {
-    register_count(p, f).max(arguments)
+    register_count(program, f).max(arguments)
 }
 
 /// The number behind that of a thread's present call.
-fn top_at(tops: &[usize], t: usize) -> usize
-    ensures { result ≡ slice_index_or tops.now t 0 }
+fn top_at(tops: &[usize], thread: usize) -> usize
+    ensures { result ≡ slice_index_or tops.now thread 0 }
 {
-    match tops.get(t) {
+    match tops.get(thread) {
         Some(top) => *top,
         None => 0,
     }
 }
 
 /// Sets the number behind that of a thread's present call, if there is such a thread.
-fn set_top(tops: &mut Vec<usize>, t: usize, top: usize)
-    ensures { tops.new.items ≡ slice_set tops.old.items t top }
+fn set_top(tops: &mut Vec<usize>, thread: usize, top: usize)
+    ensures { tops.new.items ≡ slice_set tops.old.items thread top }
 {
-    if t < tops.len() {
-        tops[t] = top;
+    if thread < tops.len() {
+        tops[thread] = top;
     }
 }
 
@@ -86,12 +86,12 @@ impl Calls {
     /// # Errors
     ///
     /// Where no memory is left.
-    pub(crate) fn start(alloc: Global, p: &Program) -> Result<Calls, AllocError>
-        ensures { IfOk result (λ c. AreStacks c (start_of p.now)) }
+    pub(crate) fn start(alloc: Global, program: &Program) -> Result<Calls, AllocError>
+        ensures { IfOk result (λ c. AreStacks c (start_of program.now)) }
     {
         let mut held = Vec::new(alloc);
         held.push(Held {
-            count: register_count(p, p.main()),
+            count: register_count(program, program.main()),
             under: 0,
         })?;
         let mut tops = Vec::new(alloc);
@@ -100,17 +100,17 @@ impl Calls {
     }
 
     /// How many registers the present call of a thread has.
-    pub(crate) fn count(&self, t: usize) -> usize
-        ensures { (s : SymbolicState) → AreStacks self.now s → result ≡ length (registers_of s t) }
+    pub(crate) fn count(&self, thread: usize) -> usize
+        ensures { (s : SymbolicState) → AreStacks self.now s → result ≡ length (registers_of s thread) }
     {
-        count_of(self.held.as_slice(), top_at(self.tops.as_slice(), t))
+        count_of(self.held.as_slice(), top_at(self.tops.as_slice(), thread))
     }
 
     /// How many registers the call under the present one of a thread has.
-    pub(crate) fn under(&self, t: usize) -> usize
-        ensures { (s : SymbolicState) → AreStacks self.now s → result ≡ length (top_of (under_top (thread_of s t).calls)) }
+    pub(crate) fn under(&self, thread: usize) -> usize
+        ensures { (s : SymbolicState) → AreStacks self.now s → result ≡ length (top_of (under_top (thread_of s thread).calls)) }
     {
-        let top = under(self.held.as_slice(), top_at(self.tops.as_slice(), t));
+        let top = under(self.held.as_slice(), top_at(self.tops.as_slice(), thread));
         count_of(self.held.as_slice(), top)
     }
 
@@ -126,15 +126,20 @@ impl Calls {
     /// # Errors
     ///
     /// Where no memory is left. Nothing is said of the calls then.
-    pub(crate) fn pass(&mut self, p: &Program, x: &Instr, step: &Step) -> Result<(), AllocError>
-        ensures { OnOk result ((R : Reference) (n : ℕ) (m : Moment) (s : SymbolicState) → R.program ≡ p.now → instr_in R.program m ≡ Some x.now → m.did.did ≡ step.now
+    pub(crate) fn pass(
+        &mut self,
+        program: &Program,
+        instr: &Instr,
+        step: &Step,
+    ) -> Result<(), AllocError>
+        ensures { OnOk result ((R : Reference) (n : ℕ) (m : Moment) (s : SymbolicState) → R.program ≡ program.now → instr_in R.program m ≡ Some instr.now → m.did.did ≡ step.now
             → thread_in m < length s.threads → AreStacks self.old s → AreStacks self.new (after_step R every n m s)) }
     {
-        let t = step.thread.0 as usize;
-        let before = top_at(self.tops.as_slice(), t);
-        let top = top_after(&mut self.held, p, &x.op, &step.kind, before)?;
-        set_top(&mut self.tops, t, top);
-        push_made(&mut self.held, &mut self.tops, made(p, &step.kind))?;
+        let thread = step.thread.0 as usize;
+        let before = top_at(self.tops.as_slice(), thread);
+        let top = top_after(&mut self.held, program, &instr.op, &step.kind, before)?;
+        set_top(&mut self.tops, thread, top);
+        push_made(&mut self.held, &mut self.tops, made(program, &step.kind))?;
         Ok(())
     }
 }
@@ -151,12 +156,12 @@ fn push(held: &mut Vec<Held>, count: usize, under: usize) -> Result<usize, Alloc
 /// The number behind that of the present call of a step's thread after the step, by the one before it.
 fn top_after(
     held: &mut Vec<Held>,
-    p: &Program,
+    program: &Program,
     op: &Op,
     kind: &StepKind,
     top: usize,
 ) -> Result<usize, AllocError>
-    ensures stack { IfOk result (λ h. (ls : List ℕ) → IsStack held.old.items top ls → IsStack held.new.items h (lens_by_kind p.now op.now kind.now ls)) }
+    ensures stack { IfOk result (λ h. (ls : List ℕ) → IsStack held.old.items top ls → IsStack held.new.items h (lens_by_kind program.now op.now kind.now ls)) }
     ensures kept { OnOk result ((h : ℕ) (ls : List ℕ) → IsStack held.old.items h ls → IsStack held.new.items h ls) }
 {
     match kind {
@@ -167,7 +172,11 @@ fn top_after(
         },
         _ => match op {
             Op::Call { function, args } => {
-                push(held, entered(p, *function, args.as_slice().len()), top)
+                push(
+                    held,
+                    entered(program, *function, args.as_slice().len()),
+                    top,
+                )
             }
             Op::Ret { .. } => Ok(under(held.as_slice(), top)),
             _ => Ok(top),
@@ -176,12 +185,12 @@ fn top_after(
 }
 
 /// How many registers the call has of the thread that a step makes, if it makes one.
-fn made(p: &Program, kind: &StepKind) -> Option<usize>
-    ensures { lens_made p.now kind.now ≡ lens_some result }
+fn made(program: &Program, kind: &StepKind) -> Option<usize>
+    ensures { lens_made program.now kind.now ≡ lens_some result }
 {
     match kind {
         StepKind::Event(e) => match e.kind {
-            TurnKind::Create => Some(created(p, e.operands[2])),
+            TurnKind::Create => Some(created(program, e.operands[2])),
             _ => None,
         },
         _ => None,
@@ -211,11 +220,11 @@ fn push_made(
 }
 
 /// How many registers the function has with this number.
-fn created(p: &Program, f: u64) -> usize
-    ensures { result ≡ length (types_of p.now f) }
+fn created(program: &Program, f: u64) -> usize
+    ensures { result ≡ length (types_of program.now f) }
 {
-    if f < p.function_count() as u64 {
-        register_count(p, f as u32)
+    if f < program.function_count() as u64 {
+        register_count(program, f as u32)
     } else {
         0
     }

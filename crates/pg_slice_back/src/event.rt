@@ -6,7 +6,7 @@ ghost use Rattle.pg_run_trace.specs.declared.step.Step.{Step as AStep};
 ghost use Rattle.pg_run_trace.specs.declared.step.StepKind.TheVariants as kinds;
 ghost use Rattle.pg_slice_rules.specs.Known.{Reference, Taken};
 ghost use Rattle.pg_slice_rules.specs.Moments.{Moment};
-ghost use Rattle.pg_slice_replay.specs.declared.run.ReferenceRun.{ReferenceRun as AReferenceRun};
+ghost use Rattle.pg_slice_passes.specs.pg_slice_replay.declared.run.ReferenceRun.{ReferenceRun as AReferenceRun};
 ghost use Rattle.pg_law_demands.specs.Along.{known_at};
 ghost use Rattle.pg_slice_demands.specs.Asked.{asked_of, asks_byte};
 ghost use Rattle.pg_slice_back.specs.declared.registers.Counts.{Counts as ACounts};
@@ -18,12 +18,11 @@ ghost use Rattle.pg_slice_back.specs.Steps.{IsCallOf, IsLiveStep};
 
 use crate::arguments::put_argument;
 use crate::bytes::own_bytes;
-use crate::call::Call;
 use crate::moves::{leave, leave_thread};
 use crate::operations::held;
 use pg_ir::Instr;
 use pg_run_trace::{Access, Event, TurnKind, Write};
-use pg_slice_demands::Demanded;
+use pg_slice_demands::{Call, Demanded};
 use std::alloc::AllocError;
 
 /// Whether an event ends its thread.
@@ -47,20 +46,20 @@ fn event_target(target: Option<u32>, kind: TurnKind) -> Option<u32>
 }
 
 /// Nothing is asked any more of the registers that an event sets: an exit ends all calls of the thread.
-fn leave_set(w: &mut Demanded, at: Call, target: Option<u32>, kind: TurnKind)
-    ensures { Without at.thread (event_depth at.depth kind) (event_sets target kind) none w.old w.new }
+fn leave_set(demanded: &mut Demanded, at: Call, target: Option<u32>, kind: TurnKind)
+    ensures { Without at.thread.0 (event_depth at.depth kind) (event_sets target kind) none demanded.old demanded.new }
 {
     if is_exit(kind) {
-        leave_thread(w, at);
+        leave_thread(demanded, at);
     } else {
-        let _was = leave(w, at, event_target(target, kind));
+        let _was = leave(demanded, at, event_target(target, kind));
     }
 }
 
 /// Nothing is asked any more of the bytes that an event writes, if it writes.
-fn leave_written(w: &mut Demanded, write: Option<Write>)
-    ensures registers { (u j i : ℕ) (v : Bool) → asked_of w.new u j i ≡ Some v → asked_of w.old u j i ≡ Some v }
-    ensures bytes { (b : ℕ) → asks_byte w.new b ≡ true → (asks_byte w.old b ≡ true) × (event_writes write b ≡ false) }
+fn leave_written(demanded: &mut Demanded, write: Option<Write>)
+    ensures registers { (u j i : ℕ) (v : Bool) → asked_of demanded.new u j i ≡ Some v → asked_of demanded.old u j i ≡ Some v }
+    ensures bytes { (b : ℕ) → asks_byte demanded.new b ≡ true → (asks_byte demanded.old b ≡ true) × (event_writes write b ≡ false) }
 {
     if let Some(write) = write {
         let own = own_bytes(Access {
@@ -70,24 +69,24 @@ fn leave_written(w: &mut Demanded, write: Option<Write>)
             writes: true,
             event: true,
         });
-        w.clear_bytes(own.from, own.to);
+        demanded.clear_bytes(own.from, own.to);
     }
 }
 
 /// Nothing is asked any more of what an event sets and writes.
-fn leave_event(w: &mut Demanded, at: Call, target: Option<u32>, e: &Event)
-    ensures { Without at.thread (event_depth at.depth e.now.kind) (event_sets target e.now.kind) (event_writes e.now.write) w.old w.new }
+fn leave_event(demanded: &mut Demanded, at: Call, target: Option<u32>, event: &Event)
+    ensures { Without at.thread.0 (event_depth at.depth event.now.kind) (event_sets target event.now.kind) (event_writes event.now.write) demanded.old demanded.new }
 {
-    leave_set(w, at, target, e.kind);
-    leave_written(w, e.write);
+    leave_set(demanded, at, target, event.kind);
+    leave_written(demanded, event.write);
 }
 
 /// Whether something is asked of a register that there may be.
-fn asks(w: &Demanded, at: Call, target: Option<u32>) -> bool
-    ensures { result ≡ true → (i : ℕ) × (v : Bool) × (target ≡ Some i) × (asked_of w.now at.thread at.depth i ≡ Some v) }
+fn asks(demanded: &Demanded, at: Call, target: Option<u32>) -> bool
+    ensures { result ≡ true → (i : ℕ) × (v : Bool) × (target ≡ Some i) × (asked_of demanded.now at.thread.0 at.depth i ≡ Some v) }
 {
     match target {
-        Some(register) => match w.register_from(at.thread, at.depth, register) {
+        Some(register) => match demanded.register_from(at, register) {
             Some(first) => first == register,
             None => false,
         },
@@ -106,32 +105,32 @@ fn is_putchar(kind: TurnKind) -> bool
 }
 
 /// Whether an event prints, and something is asked of the register that it sets.
-fn asks_printed(w: &Demanded, at: Call, target: Option<u32>, kind: TurnKind) -> bool
-    ensures { result ≡ true → (i : ℕ) × (v : Bool) × (is_putchar kind ≡ true) × (target ≡ Some i) × (asked_of w.now at.thread at.depth i ≡ Some v) }
+fn asks_printed(demanded: &Demanded, at: Call, target: Option<u32>, kind: TurnKind) -> bool
+    ensures { result ≡ true → (i : ℕ) × (v : Bool) × (is_putchar kind ≡ true) × (target ≡ Some i) × (asked_of demanded.now at.thread.0 at.depth i ≡ Some v) }
 {
     if !is_putchar(kind) {
         return false;
     }
-    asks(w, at, target)
+    asks(demanded, at, target)
 }
 
 /// Back over an event: what is asked of the register that a print sets is asked of what it prints; of all else that an event sets
 /// and writes nothing is asked any more.
 pub(crate) fn back_event(
-    w: &mut Demanded,
+    demanded: &mut Demanded,
     at: Call,
-    x: &Instr,
-    e: &Event,
+    instr: &Instr,
+    event: &Event,
     count: usize,
 ) -> Result<(), AllocError>
     ensures { OnOk result ((R : Reference) (d : Taken) (p : NumberedProgram) (r : AReferenceRun) (step : AStep) (counts : ACounts) (n : ℕ) (m : Moment)
-        → IsLiveStep R d p r x.now step counts n m → IsCallOf m at
-        → step.kind ≡ kinds.Event e.now → counts.present ≡ count → AreMet (known_at R d (suc n)) w.old → AreMet (known_at R d n) w.new) }
+        → IsLiveStep R d p r instr.now step counts n m → IsCallOf m at
+        → step.kind ≡ kinds.Event event.now → counts.present ≡ count → AreMet (known_at R d (suc n)) demanded.old → AreMet (known_at R d n) demanded.new) }
 {
-    let printed = asks_printed(w, at, held(x.result, count), e.kind);
-    leave_event(w, at, x.result, e);
+    let printed = asks_printed(demanded, at, held(instr.result, count), event.kind);
+    leave_event(demanded, at, instr.result, event);
     if printed {
-        put_argument(w, at, &x.op, 0, true)?;
+        put_argument(demanded, at, &instr.op, 0, true)?;
         return Ok(());
     }
     Ok(())

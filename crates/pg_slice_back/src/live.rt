@@ -7,18 +7,18 @@ ghost use Rattle.pg_run_trace.specs.declared.step.StepKind.TheVariants as kinds;
 ghost use Rattle.pg_slice_rules.specs.Closed.{AreWithin};
 ghost use Rattle.pg_slice_rules.specs.Known.{Reference, Taken, has, is_branch};
 ghost use Rattle.pg_slice_rules.specs.Moments.{Moment};
-ghost use Rattle.pg_slice_decisions.specs.Steps.{AreOf, left_by, step_of, taken_by};
+ghost use Rattle.pg_slice_passes.specs.pg_slice_decisions.Steps.{AreOf, left_by, step_of, taken_by};
 ghost use Rattle.pg_law_demands.specs.Along.{known_at};
-ghost use Rattle.pg_slice_replay.specs.Kept.{landmark_at, step_count};
+ghost use Rattle.pg_slice_passes.specs.pg_slice_replay.Kept.{landmark_at, step_count};
 ghost use Rattle.pg_slice_passes.specs.Given.{EdgesStand, is_op};
-ghost use Rattle.pg_slice_replay.specs.declared.run.ReferenceRun.{ReferenceRun as AReferenceRun};
+ghost use Rattle.pg_slice_passes.specs.pg_slice_replay.declared.run.ReferenceRun.{ReferenceRun as AReferenceRun};
 ghost use Rattle.pg_slice_back.specs.declared.registers.Counts.{Counts as ACounts};
 ghost use Rattle.pg_slice_back.specs.Met.{AreMet};
 ghost use Rattle.pg_slice_back.specs.Owed.{IsPinDue};
 ghost use Rattle.pg_slice_back.specs.Steps.{IsCallOf, IsLiveStep};
 
 use crate::access::{back_load, back_store, leave_access};
-use crate::call::{Call, call_of};
+use crate::call::call_of;
 use crate::event::back_event;
 use crate::operations::{back_op, held};
 use crate::own::put_own;
@@ -28,108 +28,126 @@ use crate::registers::Counts;
 use crate::step::StepAt;
 use pg_ir::{Instr, Op, Program};
 use pg_run_trace::{Access, Step, StepKind};
-use pg_slice_decisions::DecisionSet;
-use pg_slice_demands::Demanded;
-use pg_slice_replay::ReferenceRun;
+use pg_slice_demands::{Call, Demanded};
+use pg_slice_passes::pg_slice_decisions::DecisionSet;
+use pg_slice_passes::pg_slice_replay::ReferenceRun;
 use pg_slice_rules::Decision;
 use std::alloc::{AllocError, Global};
 
 /// Back over a load or a store. Gives the decision that this needs.
 fn back_access(
-    w: &mut Demanded,
+    demanded: &mut Demanded,
     at: Call,
-    x: &Instr,
+    instr: &Instr,
     a: Access,
     count: usize,
-    n: usize,
+    number: usize,
 ) -> Result<Option<Decision>, AllocError>
-    ensures step { IfOk result (λ o. IfSome o (λ z. step_of z ≡ n)) }
+    ensures step { IfOk result (λ o. IfSome o (λ z. step_of z ≡ number)) }
     ensures back { IfOk result (λ o. (R : Reference) (e : Taken) (p : NumberedProgram) (r : AReferenceRun) (step : AStep) (counts : ACounts) (m : Moment)
-        → IsLiveStep R e p r x.now step counts n m → IsCallOf m at
-        → step.kind ≡ kinds.Access a → counts.present ≡ count → AreMet (known_at R e (suc n)) w.old → AreMet (known_at R e n) w.new × IfSome o (λ z. has e z ≡ true)) }
+        → IsLiveStep R e p r instr.now step counts number m → IsCallOf m at
+        → step.kind ≡ kinds.Access a → counts.present ≡ count → AreMet (known_at R e (suc number)) demanded.old
+        → AreMet (known_at R e number) demanded.new × IfSome o (λ z. has e z ≡ true)) }
 {
-    match &x.op {
-        Op::Load { .. } => back_load(w, at, held(x.result, count), a, n),
-        Op::Store { value, .. } => back_store(w, at, *value, a, n),
+    match &instr.op {
+        Op::Load { .. } => back_load(demanded, at, held(instr.result, count), a, number),
+        Op::Store { value, .. } => back_store(demanded, at, *value, a, number),
         _ => {
-            leave_access(w, at, x.result, a);
+            leave_access(demanded, at, instr.result, a);
             Ok(None)
         }
     }
 }
 
 /// That a branch step is pinned, where it isn't freeable, and where something has to be known that its region may set.
-fn pin_due(w: &Demanded, r: &ReferenceRun, at: Call, n: usize, count: usize) -> Option<Decision>
-    ensures step { IfSome result (λ z. step_of z ≡ n) }
-    ensures due { IfSome (landmark_at r.now n) (λ l. IfSome result (λ z. IsPinDue l.region n at.thread at.depth count w.now z)) }
+fn pin_due(
+    demanded: &Demanded,
+    reference: &ReferenceRun,
+    at: Call,
+    number: usize,
+    count: usize,
+) -> Option<Decision>
+    ensures step { IfSome result (λ z. step_of z ≡ number) }
+    ensures due { IfSome (landmark_at reference.now number) (λ l. IfSome result (λ z. IsPinDue l.region number at.thread.0 at.depth count demanded.now z)) }
 {
-    if !r.is_free(n) || sets_any(w, r, at, n, count) {
-        Some(Decision::Pinned(n))
+    if !reference.is_free(number) || sets_any(demanded, reference, at, number, count) {
+        Some(Decision::Pinned(number))
     } else {
         None
     }
 }
 
 /// Back over a branch. Gives the decision that this needs.
-fn back_branch(alloc: Global, w: &mut Demanded, s: &StepAt) -> Result<Option<Decision>, AllocError>
-    requires number { s.now.n < step_count s.now.r.now }
-    requires edges { EdgesStand s.now.p.now s.now.r.now }
-    ensures step { IfOk result (λ o. IfSome o (λ z. step_of z ≡ s.now.n)) }
-    ensures back { IfOk result (λ o. (R : Reference) (e : Taken) (step : AStep) (m : Moment) → IsLiveStep R e s.now.p.now s.now.r.now s.now.x.now step s.now.counts s.now.n m → IsCallOf m s.now.at
-        → is_branch step.kind ≡ true → AreMet (known_at R e (suc s.now.n)) w.old → AreMet (known_at R e s.now.n) w.new × IfSome o (λ z. has e z ≡ true)) }
+fn back_branch(
+    alloc: Global,
+    demanded: &mut Demanded,
+    s: &StepAt,
+) -> Result<Option<Decision>, AllocError>
+    requires number { s.now.number < step_count s.now.reference.now }
+    requires edges { EdgesStand s.now.program.now s.now.reference.now }
+    ensures step { IfOk result (λ o. IfSome o (λ z. step_of z ≡ s.now.number)) }
+    ensures back { IfOk result (λ o. (R : Reference) (e : Taken) (step : AStep) (m : Moment)
+        → IsLiveStep R e s.now.program.now s.now.reference.now s.now.instr.now step s.now.counts s.now.number m → IsCallOf m s.now.at
+        → is_branch step.kind ≡ true → AreMet (known_at R e (suc s.now.number)) demanded.old → AreMet (known_at R e s.now.number) demanded.new × IfSome o (λ z. has e z ≡ true)) }
 {
-    let due = pin_due(w, s.r, s.at, s.n, s.counts.present);
-    back_op(alloc, w, s)?;
+    let due = pin_due(demanded, s.reference, s.at, s.number, s.counts.present);
+    back_op(alloc, demanded, s)?;
     Ok(due)
 }
 
 /// Back over a step that is no branch, no access and no event. It needs no decision.
-fn back_plain(alloc: Global, w: &mut Demanded, s: &StepAt) -> Result<Option<Decision>, AllocError>
-    requires number { s.now.n < step_count s.now.r.now }
-    requires edges { EdgesStand s.now.p.now s.now.r.now }
-    ensures step { IfOk result (λ o. IfSome o (λ z. step_of z ≡ s.now.n)) }
-    ensures back { IfOk result (λ o. (R : Reference) (e : Taken) (step : AStep) (m : Moment) → IsLiveStep R e s.now.p.now s.now.r.now s.now.x.now step s.now.counts s.now.n m → IsCallOf m s.now.at
-        → is_op step.kind ≡ true → AreMet (known_at R e (suc s.now.n)) w.old → AreMet (known_at R e s.now.n) w.new × IfSome o (λ z. has e z ≡ true)) }
+fn back_plain(
+    alloc: Global,
+    demanded: &mut Demanded,
+    s: &StepAt,
+) -> Result<Option<Decision>, AllocError>
+    requires number { s.now.number < step_count s.now.reference.now }
+    requires edges { EdgesStand s.now.program.now s.now.reference.now }
+    ensures step { IfOk result (λ o. IfSome o (λ z. step_of z ≡ s.now.number)) }
+    ensures back { IfOk result (λ o. (R : Reference) (e : Taken) (step : AStep) (m : Moment)
+        → IsLiveStep R e s.now.program.now s.now.reference.now s.now.instr.now step s.now.counts s.now.number m → IsCallOf m s.now.at
+        → is_op step.kind ≡ true → AreMet (known_at R e (suc s.now.number)) demanded.old → AreMet (known_at R e s.now.number) demanded.new × IfSome o (λ z. has e z ≡ true)) }
 {
-    back_op(alloc, w, s)?;
+    back_op(alloc, demanded, s)?;
     Ok(None)
 }
 
 /// Back over a live step, but for what it asks by itself. Gives the decision that this needs.
 fn back_step(
     alloc: Global,
-    w: &mut Demanded,
+    demanded: &mut Demanded,
     s: &StepAt,
     step: &Step,
 ) -> Result<Option<Decision>, AllocError>
-    requires number { s.now.n < step_count s.now.r.now }
-    requires edges { EdgesStand s.now.p.now s.now.r.now }
-    ensures step { IfOk result (λ o. IfSome o (λ z. step_of z ≡ s.now.n)) }
-    ensures back { IfOk result (λ o. (R : Reference) (e : Taken) (m : Moment) → IsLiveStep R e s.now.p.now s.now.r.now s.now.x.now step.now s.now.counts s.now.n m → IsCallOf m s.now.at
-        → AreMet (known_at R e (suc s.now.n)) w.old → AreMet (known_at R e s.now.n) w.new × IfSome o (λ z. has e z ≡ true)) }
+    requires number { s.now.number < step_count s.now.reference.now }
+    requires edges { EdgesStand s.now.program.now s.now.reference.now }
+    ensures step { IfOk result (λ o. IfSome o (λ z. step_of z ≡ s.now.number)) }
+    ensures back { IfOk result (λ o. (R : Reference) (e : Taken) (m : Moment)
+        → IsLiveStep R e s.now.program.now s.now.reference.now s.now.instr.now step.now s.now.counts s.now.number m → IsCallOf m s.now.at
+        → AreMet (known_at R e (suc s.now.number)) demanded.old → AreMet (known_at R e s.now.number) demanded.new × IfSome o (λ z. has e z ≡ true)) }
 {
     match &step.kind {
-        StepKind::Access(a) => back_access(w, s.at, s.x, *a, s.counts.present, s.n),
+        StepKind::Access(a) => back_access(demanded, s.at, s.instr, *a, s.counts.present, s.number),
         StepKind::Event(e) => {
-            back_event(w, s.at, s.x, e, s.counts.present)?;
+            back_event(demanded, s.at, s.instr, e, s.counts.present)?;
             Ok(None)
         }
-        StepKind::Branch { .. } => back_branch(alloc, w, s),
-        StepKind::Allocation { .. } => back_plain(alloc, w, s),
-        StepKind::Other => back_plain(alloc, w, s),
+        StepKind::Branch { .. } => back_branch(alloc, demanded, s),
+        StepKind::Allocation { .. } => back_plain(alloc, demanded, s),
+        StepKind::Other => back_plain(alloc, demanded, s),
     }
 }
 
 /// Takes a decision that there may be.
-fn take_due(d: &mut DecisionSet, due: Option<Decision>)
-    requires { IfSome due (λ z. (k : ℕ) × AreOf k d.old × (step_of z < k)) }
-    ensures size { (k : ℕ) → AreOf k d.old → AreOf k d.new }
-    ensures kept { AreWithin (taken_by d.old) (taken_by d.new) }
-    ensures less { left_by d.new ≤ left_by d.old }
-    ensures within { (e : Taken) → IfSome due (λ z. has e z ≡ true) → AreWithin (taken_by d.old) e → AreWithin (taken_by d.new) e }
+fn take_due(decisions: &mut DecisionSet, due: Option<Decision>)
+    requires { IfSome due (λ z. (k : ℕ) × AreOf k decisions.old × (step_of z < k)) }
+    ensures size { (k : ℕ) → AreOf k decisions.old → AreOf k decisions.new }
+    ensures kept { AreWithin (taken_by decisions.old) (taken_by decisions.new) }
+    ensures less { left_by decisions.new ≤ left_by decisions.old }
+    ensures within { (e : Taken) → IfSome due (λ z. has e z ≡ true) → AreWithin (taken_by decisions.old) e → AreWithin (taken_by decisions.new) e }
 {
     if let Some(x) = due {
-        d.take(x);
+        decisions.take(x);
     }
 }
 
@@ -142,36 +160,37 @@ fn take_due(d: &mut DecisionSet, due: Option<Decision>)
 /// Where no memory is left. Nothing is said of what has to be known then.
 pub fn back_live(
     alloc: Global,
-    w: &mut Demanded,
-    d: &mut DecisionSet,
-    p: &Program,
-    x: &Instr,
+    demanded: &mut Demanded,
+    decisions: &mut DecisionSet,
+    program: &Program,
+    instr: &Instr,
     step: &Step,
-    r: &ReferenceRun,
+    reference: &ReferenceRun,
     counts: Counts,
-    n: usize,
+    number: usize,
 ) -> Result<(), AllocError>
-    requires number { n < step_count r.now }
-    requires edges { EdgesStand p.now r.now }
-    requires size { (k : ℕ) × AreOf k d.old × (n < k) }
-    ensures size { (k : ℕ) → AreOf k d.old → AreOf k d.new }
-    ensures kept { AreWithin (taken_by d.old) (taken_by d.new) }
-    ensures less { left_by d.new ≤ left_by d.old }
-    ensures back { OnOk result ((R : Reference) (e : Taken) (m : Moment) → IsLiveStep R e p.now r.now x.now step.now counts n m → AreWithin (taken_by d.old) e
-        → AreMet (known_at R e (suc n)) w.old → AreMet (known_at R e n) w.new × AreWithin (taken_by d.new) e) }
+    requires number { number < step_count reference.now }
+    requires edges { EdgesStand program.now reference.now }
+    requires size { (k : ℕ) × AreOf k decisions.old × (number < k) }
+    ensures size { (k : ℕ) → AreOf k decisions.old → AreOf k decisions.new }
+    ensures kept { AreWithin (taken_by decisions.old) (taken_by decisions.new) }
+    ensures less { left_by decisions.new ≤ left_by decisions.old }
+    ensures back { OnOk result ((R : Reference) (e : Taken) (m : Moment) → IsLiveStep R e program.now reference.now instr.now step.now counts number m
+        → AreWithin (taken_by decisions.old) e
+        → AreMet (known_at R e (suc number)) demanded.old → AreMet (known_at R e number) demanded.new × AreWithin (taken_by decisions.new) e) }
 {
-    let at = call_of(r, step, n);
+    let at = call_of(reference, step, number);
     let s = StepAt {
-        p,
-        r,
-        x,
+        program,
+        reference,
+        instr,
         at,
         counts,
-        n,
+        number,
     };
-    let due = back_step(alloc, w, &s, step)?;
-    take_due(d, due);
-    put_own(w, d, at, x, &step.kind, n)?;
-    put_region(w, r, at, n)?;
+    let due = back_step(alloc, demanded, &s, step)?;
+    take_due(decisions, due);
+    put_own(demanded, decisions, at, instr, &step.kind, number)?;
+    put_region(demanded, reference, at, number)?;
     Ok(())
 }

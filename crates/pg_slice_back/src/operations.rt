@@ -9,20 +9,19 @@ ghost use Rattle.pg_slice_rules.specs.Moments.{Moment};
 ghost use Rattle.pg_law_demands.specs.Along.{known_at};
 ghost use Rattle.pg_law_demands.specs.Cells.{IsMet};
 ghost use Rattle.pg_law_demands.specs.Back.{is_target, of_optional, register_demand};
-ghost use Rattle.pg_slice_replay.specs.Kept.{landmark_at, step_count};
+ghost use Rattle.pg_slice_passes.specs.pg_slice_replay.Kept.{landmark_at, step_count};
 ghost use Rattle.pg_slice_passes.specs.Given.{EdgesStand, is_op};
 ghost use Rattle.pg_slice_back.specs.Edges.{held_by, sets_result, takes_edge};
 ghost use Rattle.pg_slice_back.specs.Leaves.{Leaves, none};
 ghost use Rattle.pg_slice_back.specs.Met.{AreMet};
 ghost use Rattle.pg_slice_back.specs.Steps.{IsCallOf, IsLiveStep};
 
-use crate::call::Call;
 use crate::moves::{back_call, back_result, back_return, leave_thread};
 use crate::phis::back_edge;
 use crate::step::StepAt;
 use pg_ir::{Op, Value};
-use pg_slice_demands::Demanded;
-use pg_slice_replay::ReferenceRun;
+use pg_slice_demands::{Call, Demanded};
+use pg_slice_passes::pg_slice_replay::ReferenceRun;
 use std::alloc::{AllocError, Global};
 
 /// A register, where it is among the first so many.
@@ -63,58 +62,64 @@ fn takes_edge(op: &Op) -> bool
 }
 
 /// The block that a step's edge enters, if it takes one.
-fn edge_of(r: &ReferenceRun, n: usize) -> Option<u32>
-    requires { n < step_count r.now }
-    ensures is { IfSome (landmark_at r.now n) (λ l. result ≡ l.edge) }
-    ensures stands { (p : NumberedProgram) → EdgesStand p r.now → IfSome result (λ b. b < length p.blocks) }
+fn edge_of(reference: &ReferenceRun, number: usize) -> Option<u32>
+    requires { number < step_count reference.now }
+    ensures is { IfSome (landmark_at reference.now number) (λ l. result ≡ l.edge) }
+    ensures stands { (p : NumberedProgram) → EdgesStand p reference.now → IfSome result (λ b. b < length p.blocks) }
 {
-    r.edge(n)
+    reference.edge(number)
 }
 
 /// Back over a return, where the thread may have no call.
 fn back_returned(
-    w: &mut Demanded,
+    demanded: &mut Demanded,
     at: Call,
     target: Option<u32>,
     value: Option<Value>,
 ) -> Result<(), AllocError>
-    ensures { OnOk result ((after before : SymbolicState) → Leaves at.thread (at.depth - 1) (is_target target) none after before
-        → ((r : ℕ) (v : Bool) → target ≡ Some r → IsMet after (register_demand at.thread (at.depth - 1) r v)
-        → 0 < at.depth → AllByRecursion (IsMet before) (of_optional at.thread at.depth v value))
-        → AreMet after w.old → AreMet before w.new) }
+    ensures { OnOk result ((after before : SymbolicState) → Leaves at.thread.0 (at.depth - 1) (is_target target) none after before
+        → ((r : ℕ) (v : Bool) → target ≡ Some r → IsMet after (register_demand at.thread.0 (at.depth - 1) r v)
+        → 0 < at.depth → AllByRecursion (IsMet before) (of_optional at.thread.0 at.depth v value))
+        → AreMet after demanded.old → AreMet before demanded.new) }
 {
     if at.depth == 0 {
-        leave_thread(w, at);
+        leave_thread(demanded, at);
         return Ok(());
     }
-    back_return(w, at, target, value)
+    back_return(demanded, at, target, value)
 }
 
 /// Back over a branch, a call or a return.
-fn back_flow(alloc: Global, w: &mut Demanded, s: &StepAt) -> Result<(), AllocError>
-    requires number { s.now.n < step_count s.now.r.now }
-    requires edges { EdgesStand s.now.p.now s.now.r.now }
-    ensures { OnOk result ((R : Reference) (e : Taken) (step : AStep) (m : Moment) → IsLiveStep R e s.now.p.now s.now.r.now s.now.x.now step s.now.counts s.now.n m → IsCallOf m s.now.at
+fn back_flow(alloc: Global, demanded: &mut Demanded, s: &StepAt) -> Result<(), AllocError>
+    requires number { s.now.number < step_count s.now.reference.now }
+    requires edges { EdgesStand s.now.program.now s.now.reference.now }
+    ensures { OnOk result ((R : Reference) (e : Taken) (step : AStep) (m : Moment)
+        → IsLiveStep R e s.now.program.now s.now.reference.now s.now.instr.now step s.now.counts s.now.number m → IsCallOf m s.now.at
         → is_op step.kind ≡ true
-        → AreMet (known_at R e (suc s.now.n)) w.old → AreMet (known_at R e s.now.n) w.new) }
+        → AreMet (known_at R e (suc s.now.number)) demanded.old → AreMet (known_at R e s.now.number) demanded.new) }
 {
-    if takes_edge(&s.x.op) {
+    if takes_edge(&s.instr.op) {
         back_edge(
             alloc,
-            w,
-            s.p,
+            demanded,
+            s.program,
             s.at,
-            s.x.block.0,
-            edge_of(s.r, s.n),
+            s.instr.block.0,
+            edge_of(s.reference, s.number),
             s.counts.present,
         )?;
         return Ok(());
     }
-    match &s.x.op {
-        Op::Call { args, .. } => back_call(alloc, w, s.at, None, args.as_slice()),
-        Op::Ret { value } => back_returned(w, s.at, held(s.r.target(s.n), s.counts.under), *value),
+    match &s.instr.op {
+        Op::Call { args, .. } => back_call(alloc, demanded, s.at, None, args.as_slice()),
+        Op::Ret { value } => back_returned(
+            demanded,
+            s.at,
+            held(s.reference.target(s.number), s.counts.under),
+            *value,
+        ),
         _ => {
-            leave_thread(w, s.at);
+            leave_thread(demanded, s.at);
             Ok(())
         }
     }
@@ -125,16 +130,22 @@ fn back_flow(alloc: Global, w: &mut Demanded, s: &StepAt) -> Result<(), AllocErr
 /// # Errors
 ///
 /// Where no memory is left.
-pub(crate) fn back_op(alloc: Global, w: &mut Demanded, s: &StepAt) -> Result<(), AllocError>
-    requires number { s.now.n < step_count s.now.r.now }
-    requires edges { EdgesStand s.now.p.now s.now.r.now }
-    ensures { OnOk result ((R : Reference) (e : Taken) (step : AStep) (m : Moment) → IsLiveStep R e s.now.p.now s.now.r.now s.now.x.now step s.now.counts s.now.n m → IsCallOf m s.now.at
+pub(crate) fn back_op(alloc: Global, demanded: &mut Demanded, s: &StepAt) -> Result<(), AllocError>
+    requires number { s.now.number < step_count s.now.reference.now }
+    requires edges { EdgesStand s.now.program.now s.now.reference.now }
+    ensures { OnOk result ((R : Reference) (e : Taken) (step : AStep) (m : Moment)
+        → IsLiveStep R e s.now.program.now s.now.reference.now s.now.instr.now step s.now.counts s.now.number m → IsCallOf m s.now.at
         → is_op step.kind ≡ true
-        → AreMet (known_at R e (suc s.now.n)) w.old → AreMet (known_at R e s.now.n) w.new) }
+        → AreMet (known_at R e (suc s.now.number)) demanded.old → AreMet (known_at R e s.now.number) demanded.new) }
 {
-    if sets_result(&s.x.op) {
-        back_result(w, s.at, held(s.x.result, s.counts.present), &s.x.op)
+    if sets_result(&s.instr.op) {
+        back_result(
+            demanded,
+            s.at,
+            held(s.instr.result, s.counts.present),
+            &s.instr.op,
+        )
     } else {
-        back_flow(alloc, w, s)
+        back_flow(alloc, demanded, s)
     }
 }

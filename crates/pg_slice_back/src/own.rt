@@ -6,7 +6,7 @@ ghost use Rattle.pg_run_thread.specs.Operands.{operands_of};
 ghost use Rattle.pg_slice_rules.specs.Known.{SymbolicState, Seen};
 ghost use Rattle.pg_slice_rules.specs.Moments.{thread_in};
 ghost use Rattle.pg_slice_rules.specs.Rules.{address_index};
-ghost use Rattle.pg_slice_decisions.specs.Steps.{taken_by};
+ghost use Rattle.pg_slice_passes.specs.pg_slice_decisions.Steps.{taken_by};
 ghost use Rattle.pg_law_least.specs.Keeps.{depth_of};
 ghost use Rattle.pg_law_demands.specs.Cells.{IsMet};
 ghost use Rattle.pg_law_demands.specs.Back.{of_operand};
@@ -14,12 +14,11 @@ ghost use Rattle.pg_law_demands.specs.Demands.{kind_demands};
 ghost use Rattle.pg_slice_back.specs.Met.{AreMet};
 
 use crate::arguments::{put_event, put_size};
-use crate::call::Call;
 use crate::moves::put_optional;
 use pg_ir::{Instr, Op, Value};
 use pg_run_trace::StepKind;
-use pg_slice_decisions::DecisionSet;
-use pg_slice_demands::Demanded;
+use pg_slice_demands::{Call, Demanded};
+use pg_slice_passes::pg_slice_decisions::DecisionSet;
 use std::alloc::AllocError;
 
 /// The operand on which a branch rests.
@@ -45,21 +44,23 @@ fn address(op: &Op) -> Option<Value>
 }
 
 /// The condition of a branch has to be known, where it is pinned.
-fn put_condition(w: &mut Demanded, at: Call, op: &Op, pinned: bool) -> Result<(), AllocError>
-    ensures { OnOk result ((s : SymbolicState) → (pinned ≡ true → AllByRecursion (IsMet s) (of_operand at.thread at.depth true op.now 0)) → AreMet s w.old → AreMet s w.new) }
+fn put_condition(demanded: &mut Demanded, at: Call, op: &Op, pinned: bool) -> Result<(), AllocError>
+    ensures { OnOk result ((s : SymbolicState) → (pinned ≡ true → AllByRecursion (IsMet s) (of_operand at.thread.0 at.depth true op.now 0)) → AreMet s demanded.old
+        → AreMet s demanded.new) }
 {
     if pinned {
-        put_optional(w, at, condition(op), true)
+        put_optional(demanded, at, condition(op), true)
     } else {
         Ok(())
     }
 }
 
 /// The address of an access has to be known, whole or by its bounds alone.
-fn put_address(w: &mut Demanded, at: Call, op: &Op, whole: bool) -> Result<(), AllocError>
-    ensures { OnOk result ((s : SymbolicState) → AllByRecursion (IsMet s) (of_operand at.thread at.depth whole op.now (address_index op.now)) → AreMet s w.old → AreMet s w.new) }
+fn put_address(demanded: &mut Demanded, at: Call, op: &Op, whole: bool) -> Result<(), AllocError>
+    ensures { OnOk result ((s : SymbolicState) → AllByRecursion (IsMet s) (of_operand at.thread.0 at.depth whole op.now (address_index op.now)) → AreMet s demanded.old
+        → AreMet s demanded.new) }
 {
-    put_optional(w, at, address(op), whole)
+    put_optional(demanded, at, address(op), whole)
 }
 
 /// Whether the address of an access has to be known whole.
@@ -72,24 +73,34 @@ fn is_fixed(event: bool, exact: bool) -> bool
 /// What a live step asks by itself has to be known before it: the condition of a branch that is pinned; the address of an access,
 /// whole where it is exact or an event, else its bounds; the size of a `malloc`; the operands of an event that are checked.
 pub(crate) fn put_own(
-    w: &mut Demanded,
-    d: &DecisionSet,
+    demanded: &mut Demanded,
+    decisions: &DecisionSet,
     at: Call,
-    x: &Instr,
+    instr: &Instr,
     kind: &StepKind,
-    n: usize,
+    number: usize,
 ) -> Result<(), AllocError>
-    ensures { OnOk result ((s : SymbolicState) (y : Seen) → thread_in y.moment ≡ at.thread → depth_of y ≡ at.depth → y.number ≡ n
-        → AllByRecursion (IsMet s) (kind_demands (taken_by d.now) y x.now kind.now) → AreMet s w.old → AreMet s w.new) }
+    ensures { OnOk result ((s : SymbolicState) (y : Seen) → thread_in y.moment ≡ at.thread.0 → depth_of y ≡ at.depth → y.number ≡ number
+        → AllByRecursion (IsMet s) (kind_demands (taken_by decisions.now) y instr.now kind.now) → AreMet s demanded.old → AreMet s demanded.new) }
 {
     match kind {
-        StepKind::Branch { .. } => put_condition(w, at, &x.op, d.is_pinned(n)),
-        StepKind::Allocation { .. } => put_size(w, at, &x.op),
+        StepKind::Branch { .. } => put_condition(
+            demanded,
+            at,
+            &instr.op,
+            decisions.is_pinned(number),
+        ),
+        StepKind::Allocation { .. } => put_size(demanded, at, &instr.op),
         StepKind::Event(e) => {
-            put_event(w, at, x, e)?;
+            put_event(demanded, at, instr, e)?;
             Ok(())
         }
-        StepKind::Access(a) => put_address(w, at, &x.op, is_fixed(a.event, d.is_exact(n))),
+        StepKind::Access(a) => put_address(
+            demanded,
+            at,
+            &instr.op,
+            is_fixed(a.event, decisions.is_exact(number)),
+        ),
         _ => Ok(()),
     }
 }

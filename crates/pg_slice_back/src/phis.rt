@@ -13,11 +13,10 @@ ghost use Rattle.pg_slice_back.specs.Leaves.{Leaves, Without, none};
 ghost use Rattle.pg_slice_back.specs.Met.{AreMet};
 ghost use Rattle.pg_slice_back.specs.Wanted.{AreWanted};
 
-use crate::call::Call;
 use crate::moves::{Wanted, leave, put_wanted};
 use pg_ir::{BlockNo, Instr, Program, Value};
-use pg_slice_demands::Demanded;
-use pg_slice_registers::phi_operand;
+use pg_slice_demands::{Call, Demanded};
+use pg_slice_passes::pg_slice_registers::phi_operand;
 use std::alloc::{AllocError, Global};
 
 /// Whether a register is among the first so many.
@@ -32,7 +31,8 @@ fn is_within(target: Option<u32>, count: usize) -> bool
 
 /// A value that there may be goes to a list.
 fn want(wanted: &mut Vec<Wanted>, value: Option<Value>, whole: bool) -> Result<(), AllocError>
-    ensures { OnOk result ((s : SymbolicState) (t k : ℕ) → AllByRecursion (IsMet s) (of_optional t k whole value) → AreWanted s t k wanted.old.items → AreWanted s t k wanted.new.items) }
+    ensures { OnOk result ((s : SymbolicState) (t k : ℕ) → AllByRecursion (IsMet s) (of_optional t k whole value) → AreWanted s t k wanted.old.items
+        → AreWanted s t k wanted.new.items) }
 {
     if let Some(value) = value {
         wanted.push(Wanted { value, whole })?;
@@ -42,21 +42,21 @@ fn want(wanted: &mut Vec<Wanted>, value: Option<Value>, whole: bool) -> Result<(
 
 /// What is asked of a `phi`'s register goes to a list, as what is asked of the value that it takes.
 fn take_phi(
-    w: &mut Demanded,
+    demanded: &mut Demanded,
     at: Call,
-    x: &Instr,
+    instr: &Instr,
     from: u32,
     count: usize,
     wanted: &mut Vec<Wanted>,
 ) -> Result<(), AllocError>
-    ensures without { OnOk result (Without at.thread at.depth (is_target x.now.result) none w.old w.new) }
-    ensures wanted { OnOk result ((s : SymbolicState) → ((i : ℕ) (v : Bool) → x.now.result ≡ Some i → i < count → asked_of w.old at.thread at.depth i ≡ Some v
-        → AllByRecursion (IsMet s) (of_optional at.thread at.depth v (incoming_from (incoming_of x.now.op) from)))
-        → AreWanted s at.thread at.depth wanted.old.items → AreWanted s at.thread at.depth wanted.new.items) }
+    ensures without { OnOk result (Without at.thread.0 at.depth (is_target instr.now.result) none demanded.old demanded.new) }
+    ensures wanted { OnOk result ((s : SymbolicState) → ((i : ℕ) (v : Bool) → instr.now.result ≡ Some i → i < count → asked_of demanded.old at.thread.0 at.depth i ≡ Some v
+        → AllByRecursion (IsMet s) (of_optional at.thread.0 at.depth v (incoming_from (incoming_of instr.now.op) from)))
+        → AreWanted s at.thread.0 at.depth wanted.old.items → AreWanted s at.thread.0 at.depth wanted.new.items) }
 {
-    if let Some(whole) = leave(w, at, x.result) {
-        if is_within(x.result, count) {
-            want(wanted, phi_operand(x, from), whole)?;
+    if let Some(whole) = leave(demanded, at, instr.result) {
+        if is_within(instr.result, count) {
+            want(wanted, phi_operand(instr, from), whole)?;
             return Ok(());
         }
     }
@@ -75,23 +75,23 @@ fn phi_at(phis: &[Instr], j: usize) -> &Instr
 /// two that set one register the last counts.
 fn back_phis(
     alloc: Global,
-    w: &mut Demanded,
+    demanded: &mut Demanded,
     at: Call,
     phis: &[Instr],
     from: u32,
     count: usize,
 ) -> Result<(), AllocError>
-    ensures { OnOk result ((after before : SymbolicState) → Leaves at.thread at.depth (phis_set phis.now) none after before
-        → ((i : ℕ) (v : Bool) (x : AnInstr) → i < count → last_phi phis.now i ≡ Some x → IsMet after (register_demand at.thread at.depth i v)
-        → AllByRecursion (IsMet before) (of_optional at.thread at.depth v (incoming_from (incoming_of x.op) from)))
-        → AreMet after w.old → AreMet before w.new) }
+    ensures { OnOk result ((after before : SymbolicState) → Leaves at.thread.0 at.depth (phis_set phis.now) none after before
+        → ((i : ℕ) (v : Bool) (x : AnInstr) → i < count → last_phi phis.now i ≡ Some x → IsMet after (register_demand at.thread.0 at.depth i v)
+        → AllByRecursion (IsMet before) (of_optional at.thread.0 at.depth v (incoming_from (incoming_of x.op) from)))
+        → AreMet after demanded.old → AreMet before demanded.new) }
 {
-    let _was = leave(w, at, None);
+    let _was = leave(demanded, at, None);
     let mut wanted = Vec::new(alloc);
     for j in 0..phis.len() {
-        take_phi(w, at, phi_at(phis, j), from, count, &mut wanted)?;
+        take_phi(demanded, at, phi_at(phis, j), from, count, &mut wanted)?;
     }
-    put_wanted(w, at, wanted.as_slice())?;
+    put_wanted(demanded, at, wanted.as_slice())?;
     Ok(())
 }
 
@@ -102,25 +102,26 @@ fn back_phis(
 /// Where no memory is left.
 pub(crate) fn back_edge(
     alloc: Global,
-    w: &mut Demanded,
-    p: &Program,
+    demanded: &mut Demanded,
+    program: &Program,
     at: Call,
     from: u32,
     edge: Option<u32>,
     count: usize,
 ) -> Result<(), AllocError>
-    requires { IfSome edge (λ b. b < length p.now.blocks) }
-    ensures { OnOk result ((after before : SymbolicState) → Leaves at.thread at.depth (edge_sets p.now edge) none after before
-        → ((i : ℕ) (v : Bool) → i < count → IsMet after (register_demand at.thread at.depth i v) → AllByRecursion (IsMet before) (back_edge p.now at.thread at.depth from edge i v))
-        → AreMet after w.old → AreMet before w.new) }
+    requires { IfSome edge (λ b. b < length program.now.blocks) }
+    ensures { OnOk result ((after before : SymbolicState) → Leaves at.thread.0 at.depth (edge_sets program.now edge) none after before
+        → ((i : ℕ) (v : Bool) → i < count → IsMet after (register_demand at.thread.0 at.depth i v)
+        → AllByRecursion (IsMet before) (back_edge program.now at.thread.0 at.depth from edge i v))
+        → AreMet after demanded.old → AreMet before demanded.new) }
 {
     match edge {
         Some(to) => {
-            back_phis(alloc, w, at, p.phis(BlockNo(to)), from, count)?;
+            back_phis(alloc, demanded, at, program.phis(BlockNo(to)), from, count)?;
             Ok(())
         }
         None => {
-            let _was = leave(w, at, None);
+            let _was = leave(demanded, at, None);
             Ok(())
         }
     }

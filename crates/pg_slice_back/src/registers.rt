@@ -29,29 +29,30 @@ pub struct Counts {
 fn counts_at(calls: &Calls, step: &Step) -> Counts
     ensures { (s : SymbolicState) → AreStacks calls.now s → AreCountsOf s step.now.thread.0 result }
 {
-    let t = step.thread.0 as usize;
+    let thread = step.thread.0 as usize;
     Counts {
-        present: calls.count(t),
-        under: calls.under(t),
+        present: calls.count(thread),
+        under: calls.under(thread),
         threads: calls.threads(),
     }
 }
 
 /// Adds the counts before a step, and goes over it.
 fn count_step(
-    p: &Program,
-    x: &Instr,
+    program: &Program,
+    instr: &Instr,
     step: &Step,
     calls: &mut Calls,
     counts: &mut Vec<Counts>,
 ) -> Result<(), AllocError>
     ensures long { OnOk result (length counts.new.items ≡ length counts.old.items + 1) }
-    ensures counted { OnOk result ((R : Reference) (m : Moment) → ExtentsKeep R → R.program ≡ p.now → instr_in R.program m ≡ Some x.now → m.did.did ≡ step.now
-        → slice_get R.moments (length counts.old.items) ≡ Some m → AreStacks calls.old (known_at R every (length counts.old.items)) → AreCountedTo R (length counts.old.items) counts.old.items
+    ensures counted { OnOk result ((R : Reference) (m : Moment) → ExtentsKeep R → R.program ≡ program.now → instr_in R.program m ≡ Some instr.now → m.did.did ≡ step.now
+        → slice_get R.moments (length counts.old.items) ≡ Some m → AreStacks calls.old (known_at R every (length counts.old.items))
+        → AreCountedTo R (length counts.old.items) counts.old.items
         → AreStacks calls.new (known_at R every (suc (length counts.old.items))) × AreCountedTo R (suc (length counts.old.items)) counts.new.items) }
 {
     counts.push(counts_at(calls, step))?;
-    calls.pass(p, x, step)?;
+    calls.pass(program, instr, step)?;
     Ok(())
 }
 
@@ -67,17 +68,27 @@ fn no_counts(alloc: Global) -> Vec<Counts>
 /// # Errors
 ///
 /// Where no memory is left.
-pub fn register_counts(alloc: Global, p: &Program, t: &Trace) -> Result<Vec<Counts>, AllocError>
-    requires steps { AreSteps p.now t.now.steps }
-    ensures count { IfOk result (λ v. length v.items ≡ length t.now.steps) }
-    ensures counted { IfOk result (λ v. (regions : Regions) (gated : List InstrId) (input : List ℤ) → ExtentsKeep (reference_of p.now regions gated input t.now.steps)
-        → AreCounted (reference_of p.now regions gated input t.now.steps) v.items) }
+pub fn register_counts(
+    alloc: Global,
+    program: &Program,
+    trace: &Trace,
+) -> Result<Vec<Counts>, AllocError>
+    requires steps { AreSteps program.now trace.now.steps }
+    ensures count { IfOk result (λ v. length v.items ≡ length trace.now.steps) }
+    ensures counted { IfOk result (λ v. (regions : Regions) (gated : List InstrId) (input : List ℤ) → ExtentsKeep (reference_of program.now regions gated input trace.now.steps)
+        → AreCounted (reference_of program.now regions gated input trace.now.steps) v.items) }
 {
-    let mut calls = Calls::start(alloc, p)?;
+    let mut calls = Calls::start(alloc, program)?;
     let mut counts = no_counts(alloc);
-    for n in 0..t.len() {
-        let step = t.step(n);
-        count_step(p, p.instr(step.instr), &step, &mut calls, &mut counts)?;
+    for n in 0..trace.len() {
+        let step = trace.step(n);
+        count_step(
+            program,
+            program.instr(step.instr),
+            &step,
+            &mut calls,
+            &mut counts,
+        )?;
     }
     Ok(counts)
 }

@@ -15,8 +15,8 @@ use Rattle.pg_run_trace.specs.declared.step.StepKind.{StepKind}
 use Rattle.pg_run_trace.specs.declared.step.StepKind.TheVariants as kinds
 use Rattle.pg_run_trace.specs.declared.step.Write.{Write}
 use Rattle.pg_run_trace.specs.Steps.{access_by, access_in}
-use Rattle.pg_slice_rules.specs.SymbolicValues.{Symbolic}
-use Rattle.pg_slice_rules.specs.Rules.{Bounds, edge_tests, is_case, same_bounds, write_index}
+use Rattle.pg_slice_memory.specs.pg_slice_rules.SymbolicValues.{Symbolic}
+use Rattle.pg_slice_memory.specs.pg_slice_rules.Rules.{Bounds, edge_tests, is_case, same_bounds, write_index}
 use Rattle.pg_slice_checks.specs.Steps.{AreEnough, access_index, bounds_by}
 
 pub case_tests : (w : Width) (on : Value) (other : BlockNo) (cases : List Case) (n : ℕ) → is_case n cases ≡ true → edge_tests (op.Switch w on other cases) n ≡ test.Eq n ∷ []

@@ -9,8 +9,8 @@ use Rattle.pg_precondition.specs.declared.check.Test.TheVariants as test
 use Rattle.pg_run_trace.specs.declared.step.Event.{Event}
 use Rattle.pg_run_trace.specs.declared.turn.TurnKind.{TurnKind}
 use Rattle.pg_run_trace.specs.declared.turn.TurnKind.TheVariants as turns
-use Rattle.pg_slice_rules.specs.SymbolicValues.{Symbolic}
-use Rattle.pg_slice_rules.specs.Rules.{Value, checked, checked_of}
+use Rattle.pg_slice_memory.specs.pg_slice_rules.SymbolicValues.{Symbolic}
+use Rattle.pg_slice_memory.specs.pg_slice_rules.Rules.{Value, checked, checked_of}
 use Rattle.pg_slice_checks.specs.Steps.{at, below, equal_needs, event_needs, is_start}
 
 map_both : {A B : Type 0} (f : A → B) (xs ys : List A) → map f (xs ++ ys) ≡ map f xs ++ map f ys

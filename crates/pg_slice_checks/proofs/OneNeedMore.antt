@@ -6,11 +6,11 @@ use Rattle.pg_precondition.specs.declared.check.Test.TheVariants as test
 use Rattle.pg_precondition.specs.Nodes.{NodeList}
 use Rattle.pg_precondition.specs.Values.{holds, is_met, numbers_of}
 use Rattle.pg_precondition.specs.declared.check.Check.{Check}
-use Rattle.pg_slice_rules.specs.declared.decision.Decision.{Decision}
-use Rattle.pg_slice_rules.specs.Rules.{Condition, Need, Value, all_of, conditions_with, need_blames, need_conditions}
-use Rattle.pg_slice_rules.specs.SymbolicValues.{OnInput, Known}
+use Rattle.pg_slice_memory.specs.pg_slice_rules.declared.decision.Decision.{Decision}
+use Rattle.pg_slice_memory.specs.pg_slice_rules.Rules.{Condition, Need, Value, all_of, conditions_with, need_blames, need_conditions}
+use Rattle.pg_slice_memory.specs.pg_slice_rules.SymbolicValues.{OnInput, Known}
 use Rattle.pg_slice_checks.specs.Asks.{Adds, AreNamed, all_hold, all_met, other_than}
-use Rattle.pg_slice_values.specs.SymbolicNodes.{number_by}
+use Rattle.pg_slice_memory.specs.pg_slice_values.SymbolicNodes.{number_by}
 use Rattle.pg_slice_checks.specs.declared.asked.Asked.{Asked}
 
 all_both : {A : Type 0} (f : A → Bool) (xs ys : List A) → list_all f (xs ++ ys) ≡ (list_all f xs && list_all f ys)

@@ -2,8 +2,8 @@
 use Rattle.std.proofs.Common.{◌≡◌, ℕ, zero, suc, ◌<◌, List, [], ◌∷◌, length, map, slice_index_or, refl, arith}
 use Rattle.std.specs.List.{AllByRecursion}
 use Rattle.pg_precondition.specs.Nodes.{NodeList}
-use Rattle.pg_slice_values.specs.declared.symbolic_node.SymbolicNode.{SymbolicNode}
-use Rattle.pg_slice_values.specs.SymbolicNodes.{IsSymbolicNode, symbolic_by}
+use Rattle.pg_slice_memory.specs.pg_slice_values.declared.symbolic_node.SymbolicNode.{SymbolicNode}
+use Rattle.pg_slice_memory.specs.pg_slice_values.SymbolicNodes.{IsSymbolicNode, symbolic_by}
 use Rattle.pg_slice_checks.specs.Steps.{at}
 
 pub operand_at : (ns : NodeList) (xs : List SymbolicNode) (k : ℕ) (d : SymbolicNode) → k < length xs → at (map (symbolic_by ns) xs) k ≡ symbolic_by ns (slice_index_or xs k d)

@@ -5,11 +5,11 @@ use Rattle.pg_num.specs.Pointers.{byte_place, moved_by}
 use Rattle.pg_ir.specs.Program.{NumberedProgram}
 use Rattle.pg_precondition.specs.Nodes.{NodeList}
 use Rattle.pg_precondition.specs.declared.check.Test.TheVariants as test
-use Rattle.pg_slice_rules.specs.Rules.{Bounds, Need, Value, moved_symbolic, path_needs, same_bounds}
-use Rattle.pg_slice_rules.specs.SymbolicValues.{Symbolic, loaded}
-use Rattle.pg_slice_values.specs.SymbolicNodes.{Grew, IsSymbolicNode, symbolic_by}
-use Rattle.pg_slice_values.specs.declared.symbolic_node.SymbolicNode.{SymbolicNode}
-use Rattle.pg_slice_values.proofs.GrowingNodes.{grew_length, grew_then, symbolic_kept, symbolic_node_more}
+use Rattle.pg_slice_memory.specs.pg_slice_rules.Rules.{Bounds, Need, Value, moved_symbolic, path_needs, same_bounds}
+use Rattle.pg_slice_memory.specs.pg_slice_rules.SymbolicValues.{Symbolic, loaded}
+use Rattle.pg_slice_memory.specs.pg_slice_values.SymbolicNodes.{Grew, IsSymbolicNode, symbolic_by}
+use Rattle.pg_slice_memory.specs.pg_slice_values.declared.symbolic_node.SymbolicNode.{SymbolicNode}
+use Rattle.pg_slice_memory.proofs.of_pg_slice_values.GrowingNodes.{grew_length, grew_then, symbolic_kept, symbolic_node_more}
 use Rattle.pg_slice_memory.specs.Changes.{AreSymbolicNodes, Changes, symbolics_of}
 use Rattle.pg_slice_memory.proofs.ByteNodes.{names_more, symbolics_kept}
 use Rattle.pg_slice_checks.specs.Asks.{Adds}

@@ -6,7 +6,7 @@ use Rattle.pg_precondition.specs.Nodes.{NodeList}
 use Rattle.pg_precondition.specs.Values.{holds, is_met, numbers_of}
 use Rattle.pg_precondition.specs.declared.check.Check.{Check}
 use Rattle.pg_precondition.specs.declared.check.Test.TheVariants as test
-use Rattle.pg_slice_rules.specs.Rules.{Condition, Need, all_of, need_blames, need_conditions}
+use Rattle.pg_slice_memory.specs.pg_slice_rules.Rules.{Condition, Need, all_of, need_blames, need_conditions}
 use Rattle.pg_slice_checks.specs.declared.asked.Asked.{Asked}
 
 -- by these nodes, each check holds on an input

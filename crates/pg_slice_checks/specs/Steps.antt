@@ -11,8 +11,8 @@ use Rattle.pg_run_trace.specs.declared.step.Write.{Write}
 use Rattle.pg_run_trace.specs.declared.step.StepKind.{StepKind}
 use Rattle.pg_run_trace.specs.declared.step.StepKind.TheVariants as kinds
 use Rattle.pg_run_trace.specs.Steps.{access_in}
-use Rattle.pg_slice_rules.specs.SymbolicValues.{Symbolic, unset}
-use Rattle.pg_slice_rules.specs.Rules.{Need, Value, Bounds, address_index, checked_of, edge_tests, is_malloc, same_bounds, write_index}
+use Rattle.pg_slice_memory.specs.pg_slice_rules.SymbolicValues.{Symbolic, unset}
+use Rattle.pg_slice_memory.specs.pg_slice_rules.Rules.{Need, Value, Bounds, address_index, checked_of, edge_tests, is_malloc, same_bounds, write_index}
 
 abbrev pub at : List Symbolic → ℕ → Symbolic
 at ss k = slice_index_or ss k unset

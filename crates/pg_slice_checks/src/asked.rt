@@ -3,8 +3,8 @@
 use pg_ir::Case;
 use pg_num::unpack;
 use pg_precondition::{Check, Test};
-use pg_slice_rules::Decision;
-use pg_slice_values::SymbolicNode;
+use pg_slice_memory::pg_slice_rules::Decision;
+use pg_slice_memory::pg_slice_values::SymbolicNode;
 use std::alloc::{AllocError, Global};
 
 /// What was asked of values: the decisions that are missing, in the order in which they were asked for, and the checks
@@ -20,8 +20,8 @@ impl Asked {
     ghost use Rattle.pg_ir.specs.declared.edge.Case.{Case as ACase};
     ghost use Rattle.pg_precondition.specs.Nodes.{NodeList};
     ghost use Rattle.pg_precondition.specs.declared.check.Test.TheVariants as test;
-    ghost use Rattle.pg_slice_rules.specs.Rules.{Value, Bounds, same_bounds};
-    ghost use Rattle.pg_slice_values.specs.SymbolicNodes.{IsSymbolicNode, symbolic_by};
+    ghost use Rattle.pg_slice_memory.specs.pg_slice_rules.Rules.{Value, Bounds, same_bounds};
+    ghost use Rattle.pg_slice_memory.specs.pg_slice_values.SymbolicNodes.{IsSymbolicNode, symbolic_by};
     ghost use Rattle.pg_slice_checks.specs.Asks.{Adds, other_than};
 
     /// Nothing was asked.

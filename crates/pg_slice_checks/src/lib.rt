@@ -7,4 +7,5 @@ mod step;
 
 pub use asked::Asked;
 pub use path::path_needs;
+pub use pg_slice_memory;
 pub use step::{checked_of, step_needs};

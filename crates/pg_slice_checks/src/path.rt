@@ -4,9 +4,9 @@ ghost use Rattle.std.specs.Prelude.{◌≡◌, ◌<◌, ◌+◌, ◌≤◌, ◌�
 ghost use Rattle.pg_num.specs.Places.{ByteRange};
 ghost use Rattle.pg_num.specs.Pointers.{moved_by};
 ghost use Rattle.pg_precondition.specs.Nodes.{NodeList};
-ghost use Rattle.pg_slice_rules.specs.Rules as rules;
-ghost use Rattle.pg_slice_rules.specs.SymbolicValues.{loaded};
-ghost use Rattle.pg_slice_values.specs.SymbolicNodes.{Grew, IsSymbolicNode, symbolic_by};
+ghost use Rattle.pg_slice_memory.specs.pg_slice_rules.Rules as rules;
+ghost use Rattle.pg_slice_memory.specs.pg_slice_rules.SymbolicValues.{loaded};
+ghost use Rattle.pg_slice_memory.specs.pg_slice_values.SymbolicNodes.{Grew, IsSymbolicNode, symbolic_by};
 ghost use Rattle.pg_slice_memory.specs.Changes.{AreSymbolicNodes, symbolics_of};
 ghost use Rattle.pg_stamps.specs.declared.stamps.TheConstants.{PLACE_COUNT};
 ghost use Rattle.pg_slice_checks.specs.Asks.{Adds};
@@ -16,8 +16,8 @@ use crate::asked::Asked;
 use pg_ir::Program;
 use pg_num::move_by;
 use pg_precondition::{Nodes, Test};
+use pg_slice_memory::pg_slice_values::{SymbolicNode, offset};
 use pg_slice_memory::{Held, SymbolicMemory, place_of};
-use pg_slice_values::{SymbolicNode, offset};
 use std::alloc::AllocError;
 
 /// The word moved by so many bytes, which count modulo two to the 21.

@@ -5,10 +5,10 @@ ghost use Rattle.std.specs.Option.{option_map};
 ghost use Rattle.pg_run_trace.specs.declared.step.Access.{Access as AnAccess};
 ghost use Rattle.pg_run_trace.specs.Steps.{access_in};
 ghost use Rattle.pg_precondition.specs.Nodes.{NodeList};
-ghost use Rattle.pg_slice_rules.specs.Rules as rules;
-ghost use Rattle.pg_slice_rules.specs.Rules.{Value};
+ghost use Rattle.pg_slice_memory.specs.pg_slice_rules.Rules as rules;
+ghost use Rattle.pg_slice_memory.specs.pg_slice_rules.Rules.{Value};
 ghost use Rattle.std.specs.List.{AllByRecursion};
-ghost use Rattle.pg_slice_values.specs.SymbolicNodes.{IsSymbolicNode, symbolic_by};
+ghost use Rattle.pg_slice_memory.specs.pg_slice_values.SymbolicNodes.{IsSymbolicNode, symbolic_by};
 ghost use Rattle.pg_slice_checks.specs.Asks.{Adds};
 ghost use Rattle.pg_slice_checks.specs.Steps as steps;
 ghost use Rattle.pg_slice_checks.specs.Steps.{AreEnough, access_index, at, below};
@@ -17,7 +17,7 @@ use crate::asked::Asked;
 use pg_ir::{Case, LibraryCall, Op};
 use pg_precondition::Test;
 use pg_run_trace::{Event, StepKind, TurnKind};
-use pg_slice_values::SymbolicNode;
+use pg_slice_memory::pg_slice_values::SymbolicNode;
 use std::alloc::AllocError;
 
 /// Whether a number is that of a case.

@@ -2,7 +2,7 @@
 
 ghost use Rattle.std.specs.Prelude.{◌≡◌, ◌<◌, Some, length, slice_get};
 
-use pg_ir::ThreadNo;
+use pg_run_trace::pg_ir::ThreadNo;
 
 /// A range of bytes that a step may access: the thread of the step and its interval among the turns, the first
 /// byte and how many there are, whether they may be written, and whether the range is that of a region's access.

@@ -4,7 +4,7 @@ ghost use Rattle.std.specs.Prelude.{◌≡◌, map, IfOk};
 ghost use Rattle.pg_slice_conflicts.specs.Passes.{touch_of};
 
 use crate::places::Placed;
-use pg_ir::ThreadNo;
+use pg_run_trace::pg_ir::ThreadNo;
 use std::alloc::{AllocError, Global};
 
 /// A footprint in one pass over all: its thread, its places, the rank that it gives to those of other threads and

@@ -6,6 +6,7 @@ ghost use Rattle.std.specs.Ordering.{nat_cmp};
 ghost use Rattle.std.specs.BTreeMap.{get, btree_map_len};
 ghost use Rattle.pg_slice_demands.specs.Asked.{asked_of, asks_byte, IsAskedAlike};
 
+use crate::call::Call;
 use crate::places::{BYTE_PLACES, CALLS, call_place, register_place};
 use std::alloc::{AllocError, Global};
 use std::collections::BTreeMap;
@@ -86,73 +87,66 @@ impl Demanded {
     /// # Errors
     ///
     /// Where no memory is left.
-    pub fn put_register(
-        &mut self,
-        thread: u8,
-        call: u32,
-        register: u32,
-        whole: bool,
-    ) -> Result<(), AllocError>
+    pub fn put_register(&mut self, at: Call, register: u32, whole: bool) -> Result<(), AllocError>
         ensures registers { OnOk result ((u j i : ℕ) (w : Bool) → asked_of self.new u j i ≡ Some w
-            → (asked_of self.old u j i ≡ Some w) ⊎ ((u ≡ thread) × (j ≡ call) × (i ≡ register) × (w ≡ whole))) }
+            → (asked_of self.old u j i ≡ Some w) ⊎ ((u ≡ at.thread.0) × (j ≡ at.depth) × (i ≡ register) × (w ≡ whole))) }
         ensures bytes { OnOk result ((b : ℕ) → asks_byte self.new b ≡ true → asks_byte self.old b ≡ true) }
-        ensures asked { OnOk result (call < 512 → register < 4096 → asked_of self.new thread call register ≡ Some (whole || unwrap_or (asked_of self.old thread call register) false)) }
-        ensures other_registers { OnOk result ((u j i : ℕ) → (u ≡ thread → j ≡ call → i ≡ register → ⊥) → asked_of self.new u j i ≡ asked_of self.old u j i) }
+        ensures asked { OnOk result (at.depth < 512 → register < 4096 → asked_of self.new at.thread.0 at.depth register ≡ Some (whole || unwrap_or (asked_of self.old at.thread.0 at.depth register) false)) }
+        ensures other_registers { OnOk result ((u j i : ℕ) → (u ≡ at.thread.0 → j ≡ at.depth → i ≡ register → ⊥) → asked_of self.new u j i ≡ asked_of self.old u j i) }
         ensures all_bytes { OnOk result ((b : ℕ) → asks_byte self.old b ≡ true → asks_byte self.new b ≡ true) }
         ensures err { OnErr result (IsAskedAlike self.old self.new) }
     {
-        match register_place(thread, call, register) {
+        match register_place(at, register) {
             Some(place) => self.put(place, whole),
             None => Ok(()),
         }
     }
 
     /// Nothing is asked of a register any more; gives what was.
-    pub fn take_register(&mut self, thread: u8, call: u32, register: u32) -> Option<bool>
-        ensures was { result ≡ asked_of self.old thread call register }
+    pub fn take_register(&mut self, at: Call, register: u32) -> Option<bool>
+        ensures was { result ≡ asked_of self.old at.thread.0 at.depth register }
         ensures registers { (u j i : ℕ) (w : Bool) → asked_of self.new u j i ≡ Some w
-            → (asked_of self.old u j i ≡ Some w) × (u ≡ thread → j ≡ call → i ≡ register → ⊥) }
+            → (asked_of self.old u j i ≡ Some w) × (u ≡ at.thread.0 → j ≡ at.depth → i ≡ register → ⊥) }
         ensures bytes { (b : ℕ) → asks_byte self.new b ≡ true → asks_byte self.old b ≡ true }
-        ensures other_registers { (u j i : ℕ) → (u ≡ thread → j ≡ call → i ≡ register → ⊥) → asked_of self.new u j i ≡ asked_of self.old u j i }
+        ensures other_registers { (u j i : ℕ) → (u ≡ at.thread.0 → j ≡ at.depth → i ≡ register → ⊥) → asked_of self.new u j i ≡ asked_of self.old u j i }
         ensures all_bytes { (b : ℕ) → asks_byte self.old b ≡ true → asks_byte self.new b ≡ true }
     {
-        match register_place(thread, call, register) {
+        match register_place(at, register) {
             Some(place) => self.take(place),
             None => None,
         }
     }
 
-    /// Nothing is asked any more of the registers of a thread's calls, from the one on with so many calls to it.
-    pub fn clear_calls(&mut self, thread: u8, call: u32)
-        ensures registers { (u j i : ℕ) (w : Bool) → asked_of self.new u j i ≡ Some w → (asked_of self.old u j i ≡ Some w) × (u ≡ thread → call ≤ j → ⊥) }
+    /// Nothing is asked any more of the registers of a thread's calls from this one on.
+    pub fn clear_calls(&mut self, at: Call)
+        ensures registers { (u j i : ℕ) (w : Bool) → asked_of self.new u j i ≡ Some w → (asked_of self.old u j i ≡ Some w) × (u ≡ at.thread.0 → at.depth ≤ j → ⊥) }
         ensures bytes { (b : ℕ) → asks_byte self.new b ≡ true → asks_byte self.old b ≡ true }
-        ensures other_registers { (u j i : ℕ) → (u ≡ thread → call ≤ j → ⊥) → asked_of self.new u j i ≡ asked_of self.old u j i }
+        ensures other_registers { (u j i : ℕ) → (u ≡ at.thread.0 → at.depth ≤ j → ⊥) → asked_of self.new u j i ≡ asked_of self.old u j i }
         ensures all_bytes { (b : ℕ) → asks_byte self.old b ≡ true → asks_byte self.new b ≡ true }
     {
-        self.clear(call_place(thread, call as u64), call_place(thread, CALLS));
+        let end = call_place(at.thread, CALLS);
+        self.clear(call_place(at.thread, at.depth as u64), end);
     }
 
-    /// Nothing is asked any more of the registers of those calls of a thread that began after the one with so many calls to it.
-    pub fn clear_above(&mut self, thread: u8, call: u32)
-        ensures registers { (u j i : ℕ) (w : Bool) → asked_of self.new u j i ≡ Some w → (asked_of self.old u j i ≡ Some w) × (u ≡ thread → call < j → ⊥) }
+    /// Nothing is asked any more of the registers of those calls of a thread that began after this one.
+    pub fn clear_above(&mut self, at: Call)
+        ensures registers { (u j i : ℕ) (w : Bool) → asked_of self.new u j i ≡ Some w → (asked_of self.old u j i ≡ Some w) × (u ≡ at.thread.0 → at.depth < j → ⊥) }
         ensures bytes { (b : ℕ) → asks_byte self.new b ≡ true → asks_byte self.old b ≡ true }
-        ensures other_registers { (u j i : ℕ) → (u ≡ thread → call < j → ⊥) → asked_of self.new u j i ≡ asked_of self.old u j i }
+        ensures other_registers { (u j i : ℕ) → (u ≡ at.thread.0 → at.depth < j → ⊥) → asked_of self.new u j i ≡ asked_of self.old u j i }
         ensures all_bytes { (b : ℕ) → asks_byte self.old b ≡ true → asks_byte self.new b ≡ true }
     {
-        self.clear(
-            call_place(thread, call as u64 + 1),
-            call_place(thread, CALLS),
-        );
+        let end = call_place(at.thread, CALLS);
+        self.clear(call_place(at.thread, at.depth as u64 + 1), end);
     }
 
     /// The first register of a call of which something is asked, from one on.
-    pub fn register_from(&self, thread: u8, call: u32, register: u32) -> Option<u32>
-        ensures some { IfSome result (λ i. (register ≤ i) × ((w : Bool) × (asked_of self.now thread call i ≡ Some w))) }
-        ensures first { IfSome result (λ i. (k : ℕ) (w : Bool) → register ≤ k → asked_of self.now thread call k ≡ Some w → i ≤ k) }
-        ensures none { IfNone result ((i : ℕ) → register ≤ i → asked_of self.now thread call i ≡ None) }
+    pub fn register_from(&self, at: Call, register: u32) -> Option<u32>
+        ensures some { IfSome result (λ i. (register ≤ i) × ((w : Bool) × (asked_of self.now at.thread.0 at.depth i ≡ Some w))) }
+        ensures first { IfSome result (λ i. (k : ℕ) (w : Bool) → register ≤ k → asked_of self.now at.thread.0 at.depth k ≡ Some w → i ≤ k) }
+        ensures none { IfNone result ((i : ℕ) → register ≤ i → asked_of self.now at.thread.0 at.depth i ≡ None) }
     {
-        match register_place(thread, call, register) {
-            Some(from) => match self.first_in(from, call_place(thread, call as u64 + 1)) {
+        match register_place(at, register) {
+            Some(from) => match self.first_in(from, call_place(at.thread, at.depth as u64 + 1)) {
                 Some(place) => Some((place - from) as u32 + register),
                 None => None,
             },

@@ -1,7 +1,9 @@
 //! What has to be known at a moment of a run: registers of the calls of threads, whole or by their bounds alone, and bytes.
 #![tactic(auto)]
 
+mod call;
 mod demanded;
 mod places;
 
+pub use call::Call;
 pub use demanded::Demanded;

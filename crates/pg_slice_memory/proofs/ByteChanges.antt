@@ -4,7 +4,7 @@ use Rattle.std.proofs.Common.{slice_get, refl, sym, ap, ◌∙◌, arith, subst,
 use Rattle.std.specs.Prelude.{nat_le, nat_lt}
 use Rattle.std.proofs.lemmas.Bool.{and_parts, leb-true, le-ltb, ltb-true, and_right}
 use Rattle.std.proofs.lemmas.Option.{slice_get-get_or}
-use Rattle.pg_slice_rules.specs.SymbolicValues.{is_within}
+use Rattle.pg_slice_values.specs.pg_slice_rules.SymbolicValues.{is_within}
 use Rattle.pg_stamps.specs.declared.stamps.Stamps.{Stamps}
 use Rattle.pg_stamps.specs.declared.stamps.TheConstants.{PLACE_COUNT}
 use Rattle.pg_stamps.specs.Marks.{greatest_at}

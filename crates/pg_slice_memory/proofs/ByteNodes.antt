@@ -3,7 +3,7 @@ use Rattle.std.proofs.Common.{◌≡◌, ℕ, ◌<◌, ◌≤◌, length, arith,
 use mathlib.Core.Path.{fun_ext}
 use Rattle.pg_ir.specs.Program.{NumberedProgram}
 use Rattle.pg_precondition.specs.Nodes.{NodeList}
-use Rattle.pg_slice_rules.specs.SymbolicValues.{OnInput, Symbolic, byte_in, valued}
+use Rattle.pg_slice_values.specs.pg_slice_rules.SymbolicValues.{OnInput, Symbolic, byte_in, valued}
 use Rattle.pg_slice_memory.specs.declared.symbolic_node.SymbolicByte.{SymbolicByte}
 use Rattle.pg_slice_memory.specs.declared.symbolic_node.SymbolicByte.TheVariants as byte
 use Rattle.pg_slice_memory.specs.Loads.{IsByteNode}

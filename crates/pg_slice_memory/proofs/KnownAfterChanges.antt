@@ -4,8 +4,8 @@ use mathlib.Core.Path.{fun_ext}
 use Rattle.pg_num.specs.Places.{ByteRange}
 use Rattle.pg_ir.specs.Program.{NumberedProgram}
 use Rattle.pg_precondition.specs.Nodes.{NodeList}
-use Rattle.pg_slice_rules.specs.SymbolicValues.{Bounded, OnInput, Symbolic, Unknown, is_within, spoiled, stored, byte_in}
-use Rattle.pg_slice_rules.specs.declared.decision.Decision.{Decision}
+use Rattle.pg_slice_values.specs.pg_slice_rules.SymbolicValues.{Bounded, OnInput, Symbolic, Unknown, is_within, spoiled, stored, byte_in}
+use Rattle.pg_slice_values.specs.pg_slice_rules.declared.decision.Decision.{Decision}
 use Rattle.pg_slice_memory.specs.declared.symbolic_node.SymbolicByte.{SymbolicByte}
 use Rattle.pg_slice_memory.specs.declared.symbolic_node.Held.{Held}
 use Rattle.pg_slice_memory.specs.declared.symbolic_node.Held.TheVariants as held

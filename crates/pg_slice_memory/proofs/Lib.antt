@@ -4,3 +4,4 @@ pub mod ByteNodes
 pub mod LoadedNumbers
 pub mod ByteNumbers
 pub mod ReadBytes
+pub use Rattle.pg_slice_values.proofs as of_pg_slice_values

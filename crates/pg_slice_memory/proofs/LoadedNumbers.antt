@@ -11,9 +11,9 @@ use Rattle.pg_run_memory.specs.Bytes as bytes
 use Rattle.pg_run_memory.specs.Initial.{initial_byte}
 use Rattle.pg_precondition.specs.Nodes.{NodeList}
 use Rattle.pg_precondition.specs.Values.{joined, number_of, numbers_of, with_both, with_one}
-use Rattle.pg_slice_rules.specs.declared.decision.Decision.{Decision}
-use Rattle.pg_slice_rules.specs.SymbolicValues as symbolics
-use Rattle.pg_slice_rules.specs.SymbolicValues.{OnInput, Symbolic, Known, Bounded, Unknown, always, byte_in, is_known, loaded, valued}
+use Rattle.pg_slice_values.specs.pg_slice_rules.declared.decision.Decision.{Decision}
+use Rattle.pg_slice_values.specs.pg_slice_rules.SymbolicValues as symbolics
+use Rattle.pg_slice_values.specs.pg_slice_rules.SymbolicValues.{OnInput, Symbolic, Known, Bounded, Unknown, always, byte_in, is_known, loaded, valued}
 use Rattle.pg_slice_memory.specs.declared.symbolic_node.SymbolicByte.{SymbolicByte}
 use Rattle.pg_slice_memory.specs.declared.symbolic_node.SymbolicByte.TheVariants as byte
 use Rattle.pg_slice_values.specs.SymbolicNodes.{number_by}

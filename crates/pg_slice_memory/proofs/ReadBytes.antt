@@ -8,7 +8,7 @@ use Rattle.pg_ir.specs.Program.{NumberedProgram}
 use Rattle.pg_run_memory.specs.Initial.{initial_byte}
 use Rattle.pg_precondition.specs.Nodes.{NodeList}
 use Rattle.pg_precondition.specs.Values.{joined, number_of, numbers_of, with_one}
-use Rattle.pg_slice_rules.specs.SymbolicValues.{Symbolic, loaded, valued}
+use Rattle.pg_slice_values.specs.pg_slice_rules.SymbolicValues.{Symbolic, loaded, valued}
 use Rattle.pg_slice_memory.specs.declared.symbolic_node.SymbolicByte.{SymbolicByte}
 use Rattle.pg_slice_memory.specs.declared.symbolic_node.SymbolicByte.TheVariants as byte
 use Rattle.pg_slice_memory.specs.Changes.{Changes, symbolics_of, symbolic_nodes_of}

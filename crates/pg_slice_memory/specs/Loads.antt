@@ -2,7 +2,7 @@
 use Rattle.std.specs.Prelude.{◌≡◌, ℕ, ◌-◌, ◌==◌, ◌&&◌, ◌<◌, ◌^◌, ℤ, List, Bool, true, false, IfSome, length, slice_index_or}
 use Rattle.pg_ir.specs.Program.{NumberedProgram}
 use Rattle.pg_precondition.specs.Nodes.{NodeList}
-use Rattle.pg_slice_rules.specs.SymbolicValues.{Symbolic, valued}
+use Rattle.pg_slice_values.specs.pg_slice_rules.SymbolicValues.{Symbolic, valued}
 use Rattle.pg_slice_memory.specs.declared.symbolic_node.SymbolicByte.{SymbolicByte}
 use Rattle.pg_slice_memory.specs.declared.symbolic_node.SymbolicByte.TheVariants as byte
 use Rattle.pg_slice_values.specs.SymbolicNodes.{number_by}

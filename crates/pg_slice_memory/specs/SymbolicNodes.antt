@@ -4,7 +4,7 @@ use Rattle.pg_num.specs.Places.{ByteRange}
 use Rattle.pg_ir.specs.Program.{NumberedProgram}
 use Rattle.pg_run_memory.specs.Initial.{initial_byte}
 use Rattle.pg_precondition.specs.Nodes.{NodeList}
-use Rattle.pg_slice_rules.specs.SymbolicValues.{Symbolic, Unknown, always, byte_in, is_within, valued}
+use Rattle.pg_slice_values.specs.pg_slice_rules.SymbolicValues.{Symbolic, Unknown, always, byte_in, is_within, valued}
 use Rattle.pg_slice_memory.specs.declared.symbolic_node.SymbolicByte.{SymbolicByte}
 use Rattle.pg_slice_memory.specs.declared.symbolic_node.SymbolicByte.TheVariants as byte
 use Rattle.pg_slice_memory.specs.declared.symbolic_node.Held.{Held}

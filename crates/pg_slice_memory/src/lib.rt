@@ -13,5 +13,7 @@ mod symbolic_node;
 
 pub use change::Change;
 pub use memory::SymbolicMemory;
+pub use pg_slice_values;
+pub use pg_slice_values::pg_slice_rules;
 pub use places::place_of;
 pub use symbolic_node::{Held, SymbolicByte};

@@ -1,7 +1,7 @@
 //! The symbolic value of a number that is loaded.
 
 ghost use Rattle.std.specs.Prelude.{◌≡◌, ◌≤◌, ◌<◌, ◌+◌, ℕ, IfOk, length, true};
-ghost use Rattle.pg_slice_rules.specs.SymbolicValues as symbolics;
+ghost use Rattle.pg_slice_values.specs.pg_slice_rules.SymbolicValues as symbolics;
 ghost use Rattle.pg_stamps.specs.declared.stamps.TheConstants.{PLACE_COUNT};
 ghost use Rattle.pg_slice_values.specs.SymbolicNodes.{Grew, number_by};
 ghost use Rattle.pg_slice_memory.specs.Loads.{AreKnown, AreNamed, IsByteNode, is_known_byte, symbolics_from};

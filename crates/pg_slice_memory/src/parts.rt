@@ -4,12 +4,12 @@ ghost use Rattle.std.specs.Prelude.{◌≡◌, ◌≤◌, ◌*◌, ℕ, IfNone, 
 ghost use Rattle.pg_ir.specs.Program.{NumberedProgram};
 ghost use Rattle.pg_precondition.specs.Nodes.{NodeList};
 ghost use Rattle.pg_num.specs.Numbers.{width_bits};
-ghost use Rattle.pg_slice_rules.specs.SymbolicValues as symbolics;
+ghost use Rattle.pg_slice_values.specs.pg_slice_rules.SymbolicValues as symbolics;
 ghost use Rattle.pg_slice_memory.specs.Loads.{AreInitial, AreKnown, ArePartsOf, is_part, symbolics_from};
 
 use crate::symbolic_node::SymbolicByte;
 use pg_num::Width;
-use pg_slice_rules::Decision;
+use pg_slice_values::pg_slice_rules::Decision;
 
 /// The decision that is blamed for the first byte that isn't known.
 pub(crate) fn first_unknown(symbolic_nodes: &[SymbolicByte; 8], count: u8) -> Option<Decision>

@@ -1,6 +1,6 @@
 //! What is known of a byte or of a stored number.
 
-use pg_slice_rules::Decision;
+use pg_slice_values::pg_slice_rules::Decision;
 
 /// What is known of a byte.
 #[derive(Clone, Copy, Debug, PartialEq, Eq)]

@@ -9,9 +9,9 @@ use Rattle.pg_ir.specs.declared.ids.InstrId.{InstrId}
 use Rattle.pg_ir.specs.Program.{NumberedProgram}
 use Rattle.pg_slice_conflicts.specs.declared.footprint.Footprint.{Footprint}
 use Rattle.pg_slice_conflicts.specs.Meets.{is_met}
-use Rattle.pg_law_least.specs.Footprints.{access_footprints, of_step, footprints_of, region_footprints, some_met}
-use Rattle.pg_law_least.proofs.AskedByFootprints.{by_footprints}
-use Rattle.pg_law_least.specs.FootprintLaws.{DisturbedByFootprints, SharedByFootprints}
+use Rattle.pg_law_demands.specs.pg_law_least.Footprints.{access_footprints, of_step, footprints_of, region_footprints, some_met}
+use Rattle.pg_law_demands.proofs.of_pg_law_least.AskedByFootprints.{by_footprints}
+use Rattle.pg_law_demands.specs.pg_law_least.FootprintLaws.{DisturbedByFootprints, SharedByFootprints}
 use Rattle.pg_schedule.proofs.StepPositions.{timed_length}
 use Rattle.pg_run.specs.State.{State, initial}
 use Rattle.pg_run.specs.MachineStep.{step}
@@ -27,7 +27,7 @@ use Rattle.pg_slice_rules.specs.Moments.{Moment, moments_from, moments_of, state
 use Rattle.pg_slice_rules.specs.Rules as rules
 use Rattle.pg_slice_rules.specs.Rules.{Need, all_of, asks_disturbed, asks_bounds, asks_pins, asks_shared, asks_values}
 use Rattle.pg_slice_rules.specs.Rules.{bounds_needs, is_disturbed, is_plain, is_shared, kind_in, need_blames, value_needs}
-use Rattle.pg_law_least.proofs.AskedDecisions.{asked_by, By_disturbed, By_bounds, By_pins, By_shared, By_values, in_all_of, IsAskedBy, of_all}
+use Rattle.pg_law_demands.proofs.of_pg_law_least.AskedDecisions.{asked_by, By_disturbed, By_bounds, By_pins, By_shared, By_values, in_all_of, IsAskedBy, of_all}
 use Rattle.pg_region_paths.proofs.Elements.{none_in}
 use Rattle.pg_slice_checks.specs.Asks.{all_hold, all_met}
 use Rattle.pg_precondition.specs.Nodes.{NodeList}

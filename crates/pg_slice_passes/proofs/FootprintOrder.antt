@@ -18,7 +18,7 @@ use Rattle.pg_run_trace.specs.Races.{recorded, timed_by}
 use Rattle.pg_slice_passes.specs.declared.footprints.Owner.{Owner}
 use Rattle.pg_slice_passes.specs.declared.footprints.Footprints.{Footprints}
 use Rattle.pg_slice_passes.specs.Timed.{AddsOf, AreEarlier, IsEarlier, IsOf}
-use Rattle.pg_law_least.proofs.FootprintsInOrder.{all_append, all_weaker}
+use Rattle.pg_law_demands.proofs.of_pg_law_least.FootprintsInOrder.{all_append, all_weaker}
 
 -- ---- footprints of one step
 

@@ -7,8 +7,8 @@ use Rattle.pg_slice_rules.specs.Known.{SymbolicState, SymbolicThread, registers_
 use Rattle.pg_slice_rules.specs.SymbolicValues.{Symbolic}
 use Rattle.pg_slice_values.specs.SymbolicNodes.{Grew}
 use Rattle.pg_slice_values.proofs.GrowingNodes.{grew_length}
-use Rattle.pg_slice_memory.specs.Changes.{symbolics_of}
-use Rattle.pg_slice_memory.proofs.ByteNodes.{names_more, symbolics_kept}
+use Rattle.pg_slice_checks.specs.pg_slice_memory.Changes.{symbolics_of}
+use Rattle.pg_slice_checks.proofs.of_pg_slice_memory.ByteNodes.{names_more, symbolics_kept}
 use Rattle.pg_slice_registers.specs.SymbolicRegisterNodes.{registers_by}
 use Rattle.pg_slice_registers.proofs.KeptValues.{registers_kept, symbolic_nodes_kept}
 use Rattle.pg_slice_registers.proofs.ThreadsMade.{threads_kept, threads_stay}

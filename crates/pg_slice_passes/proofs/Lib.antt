@@ -15,3 +15,4 @@ pub mod AddedNodes
 pub mod FootprintOrder
 pub mod TraceSteps
 pub mod SliceOf
+pub use Rattle.pg_slice_replay.proofs as of_pg_slice_replay

@@ -27,7 +27,7 @@ use Rattle.pg_slice_replay.specs.declared.run.ReferenceRun.{ReferenceRun}
 use Rattle.pg_slice_replay.specs.Kept.{landmark_at, landmark_in, step_count}
 use Rattle.pg_slice_replay.specs.Landmarks.{Landmark, landmark_of}
 use Rattle.pg_slice_values.specs.SymbolicNodes.{Grew}
-use Rattle.pg_slice_memory.specs.Changes.{symbolics_of}
+use Rattle.pg_slice_checks.specs.pg_slice_memory.Changes.{symbolics_of}
 use Rattle.pg_slice_registers.specs.declared.step.OpStep.{OpStep}
 use Rattle.pg_slice_registers.specs.Events.{HasOperands}
 use Rattle.pg_slice_registers.specs.SymbolicRegisterNodes.{marked, registers_by}

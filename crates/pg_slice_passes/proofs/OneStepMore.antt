@@ -7,7 +7,7 @@ use Rattle.pg_ir.specs.declared.ids.InstrId.{InstrId}
 use Rattle.pg_ir.specs.declared.instr.Instr.{Instr}
 use Rattle.pg_ir.specs.Program.{NumberedProgram}
 use Rattle.pg_slice_conflicts.specs.declared.footprint.Footprint.{Footprint}
-use Rattle.pg_law_least.specs.Footprints.{access_footprints, of_step, footprints_of, region_footprints}
+use Rattle.pg_law_demands.specs.pg_law_least.Footprints.{access_footprints, of_step, footprints_of, region_footprints}
 use Rattle.pg_schedule.specs.declared.interval.Interval.{Interval}
 use Rattle.pg_schedule.specs.declared.interval.Turns.TheVariants.{Recorded}
 use Rattle.pg_schedule.specs.Intervals.{interval_of, intervals_of}
@@ -33,8 +33,8 @@ use Rattle.pg_slice_rules.specs.Rules as rules
 use Rattle.pg_slice_rules.specs.Rules.{Condition, all_of}
 use Rattle.pg_slice_replay.specs.declared.run.ReferenceRun.{ReferenceRun}
 use Rattle.pg_slice_replay.specs.Landmarks.{landmark_of}
-use Rattle.pg_slice_memory.specs.Changes as bytes
-use Rattle.pg_slice_memory.proofs.ByteNodes.{names_more, symbolics_kept}
+use Rattle.pg_slice_checks.specs.pg_slice_memory.Changes as bytes
+use Rattle.pg_slice_checks.proofs.of_pg_slice_memory.ByteNodes.{names_more, symbolics_kept}
 use Rattle.pg_slice_registers.proofs.KeptValues.{registers_kept, symbolic_nodes_kept}
 use Rattle.pg_slice_registers.proofs.ThreadsMade.{threads_kept, threads_stay}
 use Rattle.pg_slice_values.specs.SymbolicNodes.{Grew}

@@ -7,7 +7,7 @@ use Rattle.pg_slice_rules.specs.Freeable.{FreeAccess, FreeRegion, bounds_of}
 use Rattle.pg_slice_rules.specs.Known.{Seen}
 use Rattle.pg_slice_rules.specs.Rules as rules
 use Rattle.pg_slice_conflicts.specs.declared.footprint.Footprint.{Footprint}
-use Rattle.pg_law_least.specs.Footprints.{access_footprints, of_step, region_footprints}
+use Rattle.pg_law_demands.specs.pg_law_least.Footprints.{access_footprints, of_step, region_footprints}
 use Rattle.pg_schedule.specs.declared.interval.Interval.{Interval}
 use Rattle.pg_slice_replay.specs.declared.run.ReferenceRun.{ReferenceRun}
 use Rattle.pg_slice_replay.specs.Kept.{landmark_at, landmark_in, step_count}

@@ -30,9 +30,9 @@ use Rattle.pg_run.specs.State.{State, id_in, initial, instr_of, next_of}
 use Rattle.pg_run.proofs.StepsBegin.{next_is, ready_acts, ready_made}
 use Rattle.pg_run.proofs.FitActions.{action_fits}
 use Rattle.pg_run.proofs.StepsKeepStates.{all_at}
-use Rattle.pg_law_effects.specs.Reached.{HoldBytes, IsReached}
-use Rattle.pg_law_effects.proofs.ThreadLimits.{did_allowed}
-use Rattle.pg_law_effects.proofs.ReachedStates.{can_by, present, reached_first, reached_step}
+use Rattle.pg_slice_replay.specs.pg_law_effects.Reached.{HoldBytes, IsReached}
+use Rattle.pg_slice_replay.proofs.of_pg_law_effects.ThreadLimits.{did_allowed}
+use Rattle.pg_slice_replay.proofs.of_pg_law_effects.ReachedStates.{can_by, present, reached_first, reached_step}
 use Rattle.pg_slice_rules.specs.Extents.{condition_in, edge_by, edge_in}
 use Rattle.pg_slice_rules.specs.Known.{Reference, edge_of}
 use Rattle.pg_slice_rules.specs.Moments.{Moment, instr_in}

@@ -12,9 +12,9 @@ use Rattle.pg_slice_rules.specs.Sets.{taken}
 use Rattle.pg_slice_decisions.specs.declared.steps.DecisionSet.{DecisionSet}
 use Rattle.pg_slice_decisions.specs.Marks.{members_from}
 use Rattle.pg_slice_decisions.specs.Steps.{AreOf, step_of, taken_by}
-use Rattle.pg_law_least.specs.Keeps.{ExtentsKeep}
-use Rattle.pg_law_least.proofs.InLargerClosedSets.{asks_above}
-use Rattle.pg_law_least.proofs.AskedAreMissing.{asks_new}
+use Rattle.pg_law_demands.specs.pg_law_least.Keeps.{ExtentsKeep}
+use Rattle.pg_law_demands.proofs.of_pg_law_least.InLargerClosedSets.{asks_above}
+use Rattle.pg_law_demands.proofs.of_pg_law_least.AskedAreMissing.{asks_new}
 use Rattle.pg_precondition.specs.Names.{AreNeeded}
 use Rattle.pg_precondition.specs.Nodes.{Conditions}
 use Rattle.pg_precondition.specs.Values.{is_admitted}

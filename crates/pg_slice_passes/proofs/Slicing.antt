@@ -12,9 +12,9 @@ use Rattle.pg_slice_rules.specs.Closed.{AreWithin, IsClosed, IsSlice, asks}
 use Rattle.pg_slice_rules.specs.Known.{Reference, Taken, has}
 use Rattle.pg_slice_decisions.specs.Marks.{members_from}
 use Rattle.pg_slice_decisions.specs.Steps as steps
-use Rattle.pg_law_least.specs.Keeps.{ExtentsKeep}
-use Rattle.pg_law_least.specs.Laws.{AsksAreAbove, AsksAreNew, AsksAreOfSteps, step_in}
-use Rattle.pg_law_least.proofs.ClosedDecisions.{closed_if}
+use Rattle.pg_law_demands.specs.pg_law_least.Keeps.{ExtentsKeep}
+use Rattle.pg_law_demands.specs.pg_law_least.Laws.{AsksAreAbove, AsksAreNew, AsksAreOfSteps, step_in}
+use Rattle.pg_law_demands.proofs.of_pg_law_least.ClosedDecisions.{closed_if}
 use Rattle.pg_region_paths.proofs.Elements.{cases as cases_in, here, none_in, there}
 use Rattle.pg_law_threads.proofs.ListPlaces.{take_get}
 

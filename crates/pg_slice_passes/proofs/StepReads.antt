@@ -34,8 +34,8 @@ use Rattle.pg_slice_checks.specs.Steps.{at, bounds_by, step_needs}
 use Rattle.pg_slice_replay.specs.declared.run.ReferenceRun.{ReferenceRun}
 use Rattle.pg_slice_replay.specs.Kept.{landmark_at}
 use Rattle.pg_slice_replay.specs.Landmarks.{Landmark}
-use Rattle.pg_slice_memory.specs.Changes as bytes
-use Rattle.pg_slice_memory.proofs.ByteNodes.{symbolics_kept}
+use Rattle.pg_slice_checks.specs.pg_slice_memory.Changes as bytes
+use Rattle.pg_slice_checks.proofs.of_pg_slice_memory.ByteNodes.{symbolics_kept}
 use Rattle.pg_slice_registers.specs.SymbolicRegisterNodes.{AreCalls, AreSymbolicNodes, CallList, calls_by, registers_by, top_symbolic_nodes}
 use Rattle.pg_slice_registers.specs.Threads.{AreThreads, threads_by}
 use Rattle.pg_slice_registers.proofs.ThreadCalls.{top_are, top_by}

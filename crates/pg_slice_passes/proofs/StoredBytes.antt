@@ -12,10 +12,10 @@ use Rattle.pg_slice_rules.specs.Known.{bytes_freed, forgotten_bytes}
 use Rattle.pg_slice_rules.specs.SymbolicValues.{Symbolic, byte_in, is_within, spoiled, stored}
 use Rattle.pg_slice_values.specs.declared.symbolic_node.SymbolicNode.{SymbolicNode}
 use Rattle.pg_slice_values.specs.SymbolicNodes.{Grew, symbolic_by}
-use Rattle.pg_slice_memory.specs.declared.symbolic_node.Held.{Held}
-use Rattle.pg_slice_memory.specs.Changes.{AreSymbolicNodes, Changes, symbolics_of}
-use Rattle.pg_slice_memory.specs.SymbolicNodes.{held_symbolic}
-use Rattle.pg_slice_memory.proofs.ByteNodes.{symbolics_kept}
+use Rattle.pg_slice_checks.specs.pg_slice_memory.declared.symbolic_node.Held.{Held}
+use Rattle.pg_slice_checks.specs.pg_slice_memory.Changes.{AreSymbolicNodes, Changes, symbolics_of}
+use Rattle.pg_slice_checks.specs.pg_slice_memory.SymbolicNodes.{held_symbolic}
+use Rattle.pg_slice_checks.proofs.of_pg_slice_memory.ByteNodes.{symbolics_kept}
 
 -- a value is stored as its bytes are
 pub stored_as : (r : ByteRange) (s t : Symbolic) (bytes : ℕ → Symbolic) (b : ℕ) → ((k : ℕ) → byte_in k s ≡ byte_in k t) → stored r s bytes b ≡ stored r t bytes b

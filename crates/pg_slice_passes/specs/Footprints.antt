@@ -8,7 +8,7 @@ use Rattle.pg_slice_rules.specs.declared.decision.Decision.TheVariants.{Pinned, 
 use Rattle.pg_slice_rules.specs.Freeable.{FreeAccess, bounds_of}
 use Rattle.pg_slice_rules.specs.Known.{Seen, Taken}
 use Rattle.pg_slice_rules.specs.Rules.{is_plain, kind_in}
-use Rattle.pg_law_least.specs.Footprints.{access_footprints, of_step, region_footprints}
+use Rattle.pg_law_demands.specs.pg_law_least.Footprints.{access_footprints, of_step, region_footprints}
 use Rattle.pg_slice_passes.specs.declared.footprints.Owner.{Owner}
 
 -- the step of a footprint, and whether it is a load or a store that is no event

@@ -13,7 +13,7 @@ use Rattle.pg_run_trace.specs.declared.step.StepKind.TheVariants as kinds
 use Rattle.pg_slice_rules.specs.Extents.{is_live}
 use Rattle.pg_slice_rules.specs.Known.{Reference, Seen, Taken, region_of, thread_of}
 use Rattle.pg_slice_rules.specs.Moments.{instr_in, thread_in}
-use Rattle.pg_law_least.specs.Footprints.{footprints_of}
+use Rattle.pg_law_demands.specs.pg_law_least.Footprints.{footprints_of}
 use Rattle.pg_slice_replay.specs.declared.run.ReferenceRun.{ReferenceRun}
 use Rattle.pg_slice_replay.specs.Kept.{landmark_at}
 use Rattle.pg_slice_replay.specs.Landmarks.{landmark_of}

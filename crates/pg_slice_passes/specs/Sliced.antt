@@ -6,7 +6,7 @@ use Rattle.pg_run_trace.specs.declared.step.Step.{Step}
 use Rattle.pg_slice_rules.specs.Closed.{IsSlice, admits}
 use Rattle.pg_slice_rules.specs.Freeable.{Regions}
 use Rattle.pg_slice_rules.specs.Sets.{taken}
-use Rattle.pg_law_least.specs.Keeps.{ExtentsKeep}
+use Rattle.pg_law_demands.specs.pg_law_least.Keeps.{ExtentsKeep}
 use Rattle.pg_precondition.specs.Names.{AreNeeded}
 use Rattle.pg_precondition.specs.Values.{is_admitted}
 use Rattle.pg_slice_replay.specs.declared.run.ReferenceRun.{ReferenceRun}

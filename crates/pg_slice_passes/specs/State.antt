@@ -7,7 +7,7 @@ use Rattle.pg_slice_rules.specs.Known.{SymbolicState, SymbolicThread}
 use Rattle.pg_slice_decisions.specs.declared.open.OpenExtents.{OpenExtents}
 use Rattle.pg_slice_decisions.specs.Open.{AreOpen}
 use Rattle.pg_slice_decisions.specs.Places.{open_at}
-use Rattle.pg_slice_memory.specs.Changes as bytes
+use Rattle.pg_slice_checks.specs.pg_slice_memory.Changes as bytes
 use Rattle.pg_slice_registers.specs.SymbolicRegisterNodes.{AreSymbolicNodes, CallList, registers_by, top_symbolic_nodes}
 use Rattle.pg_slice_registers.specs.Threads.{AreThreads, threads_by}
 use Rattle.pg_slice_values.specs.SymbolicNodes.{SymbolicNodeList}

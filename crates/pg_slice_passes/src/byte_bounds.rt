@@ -5,12 +5,12 @@ ghost use Rattle.pg_precondition.specs.Nodes.{NodeList};
 ghost use Rattle.pg_slice_rules.specs.Freeable.{bounds_of};
 ghost use Rattle.pg_slice_rules.specs.SymbolicValues.{byte_in};
 ghost use Rattle.pg_slice_values.specs.SymbolicNodes.{IsSymbolicNode, symbolic_by};
-ghost use Rattle.pg_slice_memory.specs.SymbolicNodes.{IsHeld, held_symbolic};
+ghost use Rattle.pg_slice_checks.specs.pg_slice_memory.SymbolicNodes.{IsHeld, held_symbolic};
 ghost use Rattle.pg_stamps.specs.declared.stamps.TheConstants.{PLACE_COUNT};
 
 use pg_num::layout::GRANULE_BYTES;
 use pg_num::unpack;
-use pg_slice_memory::Held;
+use pg_slice_checks::pg_slice_memory::Held;
 use pg_slice_values::SymbolicNode;
 
 /// The bytes within bounds: the first one, and how many there are.

@@ -2,7 +2,7 @@
 
 ghost use Rattle.std.specs.Prelude.{◌<◌, ◌^◌, ℤ, List, length};
 ghost use Rattle.pg_slice_rules.specs.Known.{Reference};
-ghost use Rattle.pg_law_effects.specs.Reached.{HoldBytes};
+ghost use Rattle.pg_slice_replay.specs.pg_law_effects.Reached.{HoldBytes};
 ghost use Rattle.pg_ir.specs.Program.{NumberedProgram};
 ghost use Rattle.pg_ir.specs.WellFormed.{IsProgram};
 ghost use Rattle.pg_ir.specs.declared.ids.InstrId.{InstrId};

@@ -6,7 +6,7 @@ ghost use Rattle.pg_ir.specs.Program.{NumberedProgram};
 ghost use Rattle.pg_precondition.specs.Nodes.{NodeList};
 ghost use Rattle.pg_slice_rules.specs.Known.{Reference, Seen, Taken};
 ghost use Rattle.pg_slice_decisions.specs.Steps.{taken_by};
-ghost use Rattle.pg_law_least.specs.Footprints.{access_footprints, region_footprints};
+ghost use Rattle.pg_law_demands.specs.pg_law_least.Footprints.{access_footprints, region_footprints};
 ghost use Rattle.pg_slice_replay.specs.Kept.{landmark_at, step_count};
 ghost use Rattle.pg_slice_passes.specs.Footprints.{asks_of_met, owners_at};
 ghost use Rattle.std.specs.Prelude.{◌∷◌, [], true, if◌then◌else◌};

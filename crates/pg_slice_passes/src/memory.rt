@@ -12,7 +12,7 @@ ghost use Rattle.pg_slice_rules.specs.Known.{bytes_by, bytes_freed, bytes_stored
 ghost use Rattle.pg_slice_rules.specs.SymbolicValues as symbolics;
 ghost use Rattle.pg_slice_replay.specs.Kept.{landmark_at};
 ghost use Rattle.pg_slice_values.specs.SymbolicNodes.{Grew, IsSymbolicNode, symbolic_by};
-ghost use Rattle.pg_slice_memory.specs.Changes as bytes;
+ghost use Rattle.pg_slice_checks.specs.pg_slice_memory.Changes as bytes;
 ghost use Rattle.pg_slice_registers.specs.SymbolicRegisterNodes.{AreSymbolicNodes, registers_by};
 
 use crate::byte_bounds::{bounds, held, loaded};
@@ -20,7 +20,7 @@ use pg_ir::{Program, Value};
 use pg_num::Width;
 use pg_precondition::Nodes;
 use pg_run_trace::{Access, Event, TurnKind, Write};
-use pg_slice_memory::{SymbolicMemory, place_of};
+use pg_slice_checks::pg_slice_memory::{SymbolicMemory, place_of};
 use pg_slice_registers::OpStep;
 use pg_slice_replay::{FreeAccess, ReferenceRun};
 use pg_slice_rules::Decision;

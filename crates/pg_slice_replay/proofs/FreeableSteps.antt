@@ -10,7 +10,7 @@ use Rattle.pg_ir.specs.declared.instr.Instr.{Instr}
 use Rattle.pg_ir.specs.Program.{NumberedProgram, function_in, function_of}
 use Rattle.pg_region_accesses.specs.declared.rooted.Rooted.{Rooted}
 use Rattle.pg_region.specs.Regions.{block_in, block_of}
-use Rattle.pg_run.specs.State.{State}
+use Rattle.pg_law_effects.specs.pg_run.State.{State}
 use Rattle.pg_slice_rules.specs.Freeable.{FreeAccess, stores_on}
 use Rattle.pg_slice_replay.specs.declared.at.At.{At}
 use Rattle.pg_slice_replay.specs.declared.found.FoundRegion.{FoundRegion}

@@ -6,10 +6,10 @@ use Rattle.pg_ir.specs.declared.ids.InstrId.{InstrId}
 use Rattle.pg_ir.specs.Program.{NumberedProgram, function_of}
 use Rattle.pg_region.specs.Regions.{block_in, block_of}
 use Rattle.pg_run_trace.specs.declared.step.Step.{Step}
-use Rattle.pg_run.specs.MachineStep.{Did, step}
-use Rattle.pg_run.specs.Readers.{depth_of, frames_in, frames_of}
-use Rattle.pg_run.specs.Runs.{IsRun, Takes}
-use Rattle.pg_run.specs.State.{State}
+use Rattle.pg_law_effects.specs.pg_run.MachineStep.{Did, step}
+use Rattle.pg_law_effects.specs.pg_run.Readers.{depth_of, frames_in, frames_of}
+use Rattle.pg_law_effects.specs.pg_run.Runs.{IsRun, Takes}
+use Rattle.pg_law_effects.specs.pg_run.State.{State}
 use Rattle.pg_slice_rules.specs.Freeable.{FreeRegion}
 use Rattle.pg_slice_rules.specs.Known.{edge_of, function_in}
 use Rattle.pg_slice_rules.specs.Moments.{state_after}

@@ -14,3 +14,4 @@ pub mod TargetsKept
 pub mod FollowedPaths
 pub mod FramesApart
 pub mod RegionAccessCounts
+pub use Rattle.pg_law_effects.proofs as of_pg_law_effects

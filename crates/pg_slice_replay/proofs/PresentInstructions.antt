@@ -12,12 +12,12 @@ use Rattle.pg_run_thread.specs.States.{AreFramesOf, CanStep, IsOf, StandsAt}
 use Rattle.pg_run_thread.specs.Step.{frames_action, next}
 use Rattle.pg_run_thread.specs.Told.{id_of}
 use Rattle.pg_run_trace.specs.declared.step.Step.{Step}
-use Rattle.pg_run.specs.Machine.{IsMachine}
-use Rattle.pg_run.specs.MachineStep.{Did, answered, may_act, ready, settled, step, taken}
-use Rattle.pg_run.specs.Runs.{Takes}
-use Rattle.pg_run.specs.State.{State, instr_of, next_of}
-use Rattle.pg_run.proofs.StepsBegin.{next_is, ready_acts, ready_made, there}
-use Rattle.pg_run.proofs.StepsKeepStates.{all_at}
+use Rattle.pg_law_effects.specs.pg_run.Machine.{IsMachine}
+use Rattle.pg_law_effects.specs.pg_run.MachineStep.{Did, answered, may_act, ready, settled, step, taken}
+use Rattle.pg_law_effects.specs.pg_run.Runs.{Takes}
+use Rattle.pg_law_effects.specs.pg_run.State.{State, instr_of, next_of}
+use Rattle.pg_law_effects.proofs.of_pg_run.StepsBegin.{next_is, ready_acts, ready_made, there}
+use Rattle.pg_law_effects.proofs.of_pg_run.StepsKeepStates.{all_at}
 use Rattle.pg_law_effects.proofs.ToldByStep.{told}
 
 -- the local state of a step's thread, its calls, and its instruction

@@ -6,13 +6,13 @@ use Rattle.pg_ir.specs.declared.ids.InstrId.{InstrId}
 use Rattle.pg_ir.specs.Program.{NumberedProgram, function_of}
 use Rattle.pg_region.specs.Regions.{block_of}
 use Rattle.pg_run_trace.specs.declared.step.Step.{Step}
-use Rattle.pg_run.specs.Bound.{BoundState}
-use Rattle.pg_run.specs.Machine.{IsMachine}
-use Rattle.pg_run.specs.MachineStep as steps
-use Rattle.pg_run.specs.MachineStep.{step}
-use Rattle.pg_run.specs.Readers.{depth_of}
-use Rattle.pg_run.specs.Runs.{IsRun, Takes}
-use Rattle.pg_run.specs.State.{State}
+use Rattle.pg_law_effects.specs.pg_run.Bound.{BoundState}
+use Rattle.pg_law_effects.specs.pg_run.Machine.{IsMachine}
+use Rattle.pg_law_effects.specs.pg_run.MachineStep as steps
+use Rattle.pg_law_effects.specs.pg_run.MachineStep.{step}
+use Rattle.pg_law_effects.specs.pg_run.Readers.{depth_of}
+use Rattle.pg_law_effects.specs.pg_run.Runs.{IsRun, Takes}
+use Rattle.pg_law_effects.specs.pg_run.State.{State}
 use Rattle.pg_slice_rules.specs.Freeable.{FreeRegion}
 use Rattle.pg_slice_rules.specs.Known.{edge_of}
 use Rattle.pg_slice_replay.specs.declared.at.At.{At}

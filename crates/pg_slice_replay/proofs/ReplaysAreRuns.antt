@@ -6,13 +6,13 @@ use Rattle.pg_ir.specs.declared.ids.InstrId.{InstrId}
 use Rattle.pg_ir.specs.Program.{NumberedProgram}
 use Rattle.pg_run_trace.specs.declared.step.Step.{Step}
 use Rattle.pg_run_trace.specs.declared.turn.Turn.{Turn}
-use Rattle.pg_run.specs.declared.guided_end.GuidedEnd.{GuidedEnd}
-use Rattle.pg_run.specs.declared.guided_end.GuidedEnd.TheVariants as ends
-use Rattle.pg_run.specs.Follow.{Breaks, Exits, Following, Strays, following, following_of, reached}
-use Rattle.pg_run.specs.Guided.{GuidedRun, guided_of}
-use Rattle.pg_run.specs.Runs.{IsRun}
-use Rattle.pg_run.specs.State.{initial}
-use Rattle.pg_run.proofs.GuidedRuns.{guided_is}
+use Rattle.pg_law_effects.specs.pg_run.declared.guided_end.GuidedEnd.{GuidedEnd}
+use Rattle.pg_law_effects.specs.pg_run.declared.guided_end.GuidedEnd.TheVariants as ends
+use Rattle.pg_law_effects.specs.pg_run.Follow.{Breaks, Exits, Following, Strays, following, following_of, reached}
+use Rattle.pg_law_effects.specs.pg_run.Guided.{GuidedRun, guided_of}
+use Rattle.pg_law_effects.specs.pg_run.Runs.{IsRun}
+use Rattle.pg_law_effects.specs.pg_run.State.{initial}
+use Rattle.pg_law_effects.proofs.of_pg_run.GuidedRuns.{guided_is}
 
 abbrev steps_in : Following → List Step → List Step
 steps_in (Exits xs output value) ys = xs

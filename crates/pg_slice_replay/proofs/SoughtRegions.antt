@@ -13,7 +13,7 @@ use Rattle.pg_region.specs.declared.region.Region.{Region}
 use Rattle.pg_region.specs.Finders.{FinderParts, IsFinder}
 use Rattle.pg_region.specs.Regions.{RegionOf, flow_of}
 use Rattle.pg_region.proofs.FlowGraphs.{flow_size, reach_within}
-use Rattle.pg_run.proofs.Threads.{last_own, set_length, set_other, set_own}
+use Rattle.pg_law_effects.proofs.of_pg_run.Threads.{last_own, set_length, set_other, set_own}
 use Rattle.pg_run_trace.specs.declared.step.Step.{Step}
 use Rattle.pg_slice_replay.specs.declared.found.FoundRegion.{FoundRegion}
 use Rattle.pg_slice_replay.specs.declared.found.Sought.{Sought}

@@ -5,15 +5,15 @@ use Rattle.pg_ir.specs.declared.ids.InstrId.{InstrId}
 use Rattle.pg_ir.specs.declared.instr.Instr.{Instr}
 use Rattle.pg_ir.specs.Program.{NumberedProgram}
 use Rattle.pg_run_trace.specs.declared.step.Step.{Step}
-use Rattle.pg_run.specs.declared.machine.Stepped.{Stepped}
-use Rattle.pg_run.specs.declared.machine.Stepped.TheVariants as answers
-use Rattle.pg_run.specs.Bound.{stepped_as}
-use Rattle.pg_run.specs.Machine.{IsMachine}
-use Rattle.pg_run.specs.MachineStep as steps
-use Rattle.pg_run.specs.MachineStep.{step}
-use Rattle.pg_run.specs.Readers.{depth_of, frames_of}
-use Rattle.pg_run.specs.Runs.{Takes}
-use Rattle.pg_run.specs.State.{State}
+use Rattle.pg_law_effects.specs.pg_run.declared.machine.Stepped.{Stepped}
+use Rattle.pg_law_effects.specs.pg_run.declared.machine.Stepped.TheVariants as answers
+use Rattle.pg_law_effects.specs.pg_run.Bound.{stepped_as}
+use Rattle.pg_law_effects.specs.pg_run.Machine.{IsMachine}
+use Rattle.pg_law_effects.specs.pg_run.MachineStep as steps
+use Rattle.pg_law_effects.specs.pg_run.MachineStep.{step}
+use Rattle.pg_law_effects.specs.pg_run.Readers.{depth_of, frames_of}
+use Rattle.pg_law_effects.specs.pg_run.Runs.{Takes}
+use Rattle.pg_law_effects.specs.pg_run.State.{State}
 use Rattle.pg_slice_replay.specs.Targets.{AreTargets, with_target}
 use Rattle.pg_slice_replay.proofs.PresentInstructions.{present, within}
 use Rattle.pg_slice_replay.proofs.TargetsKept.{targets_after}

@@ -26,14 +26,14 @@ use Rattle.pg_run_thread.specs.States.{CanStep}
 use Rattle.pg_run_thread.specs.Step.{after, are_set, begun_frame, call_action, entered, frames_action, frames_after, instr_action, instr_after, library_after, next, on_top, op_action, op_after}
 use Rattle.pg_run_thread.specs.Step.{returned, top_height_of, top_registers, total, under_top}
 use Rattle.pg_run_trace.specs.declared.step.Step.{Step}
-use Rattle.pg_run.specs.Machine.{IsMachine}
-use Rattle.pg_run.specs.Locality.{IfDid}
-use Rattle.pg_run.specs.MachineStep.{Did, Stepped, step}
-use Rattle.pg_run.specs.Readers.{frames_in, frames_of}
-use Rattle.pg_run.specs.Runs.{Takes}
-use Rattle.pg_run.specs.State.{State, initial, next_of}
-use Rattle.pg_run.proofs.StepsBegin.{next_is}
-use Rattle.pg_run.proofs.Threads.{last_other, last_own, set_length, set_other, set_own}
+use Rattle.pg_law_effects.specs.pg_run.Machine.{IsMachine}
+use Rattle.pg_law_effects.specs.pg_run.Locality.{IfDid}
+use Rattle.pg_law_effects.specs.pg_run.MachineStep.{Did, Stepped, step}
+use Rattle.pg_law_effects.specs.pg_run.Readers.{frames_in, frames_of}
+use Rattle.pg_law_effects.specs.pg_run.Runs.{Takes}
+use Rattle.pg_law_effects.specs.pg_run.State.{State, initial, next_of}
+use Rattle.pg_law_effects.proofs.of_pg_run.StepsBegin.{next_is}
+use Rattle.pg_law_effects.proofs.of_pg_run.Threads.{last_other, last_own, set_length, set_other, set_own}
 use Rattle.pg_law_effects.specs.Effect.{answer_to, effect, effect_of, local_set, locals_with, own_after, request_effect}
 use Rattle.pg_law_effects.proofs.StepEffects.{has_effect}
 use Rattle.pg_slice_rules.specs.Known.{caller_target, target_of}

@@ -16,9 +16,9 @@ use Rattle.pg_run_thread.specs.Operands.{flat}
 use Rattle.pg_run_thread.specs.Step.{top_registers}
 use Rattle.pg_run_trace.specs.declared.step.Step.{Step}
 use Rattle.pg_run_trace.specs.Races.{recorded, timed_by}
-use Rattle.pg_run.specs.MachineStep.{step}
-use Rattle.pg_run.specs.Readers.{frames_in, frames_of}
-use Rattle.pg_run.specs.State.{State, initial}
+use Rattle.pg_law_effects.specs.pg_run.MachineStep.{step}
+use Rattle.pg_law_effects.specs.pg_run.Readers.{frames_in, frames_of}
+use Rattle.pg_law_effects.specs.pg_run.State.{State, initial}
 use Rattle.pg_slice_rules.specs.Freeable.{FreeAccess, FreeRegion, Regions, accesses_at, if_apart, one_access, region_at, registers_by, stores_on}
 use Rattle.pg_slice_rules.specs.Known.{is_branch, region_of}
 use Rattle.pg_slice_rules.specs.Moments.{calls_of, moments_from, moments_of, number_in, registers_in, state_after}

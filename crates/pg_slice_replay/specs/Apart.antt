@@ -4,7 +4,7 @@ use Rattle.std.specs.List.{list_any}
 use Rattle.pg_ir.specs.Program.{NumberedProgram}
 use Rattle.pg_region_accesses.specs.declared.rooted.Rooted.{Rooted}
 use Rattle.pg_run_trace.specs.Races.{share}
-use Rattle.pg_run.specs.State.{State}
+use Rattle.pg_law_effects.specs.pg_run.State.{State}
 use Rattle.pg_slice_rules.specs.Freeable.{FreeAccess, bounds_of, stores_on}
 use Rattle.pg_slice_replay.specs.declared.at.At.{At}
 use Rattle.pg_slice_replay.specs.Paths.{accesses_in, accesses_with}

@@ -4,9 +4,9 @@ use Rattle.pg_ir.specs.declared.ids.InstrId.{InstrId}
 use Rattle.pg_ir.specs.Program.{NumberedProgram}
 use Rattle.pg_run_memory.specs.Memory.{byte_at}
 use Rattle.pg_run_trace.specs.declared.step.Step.{Step}
-use Rattle.pg_run.specs.MachineStep.{step}
-use Rattle.pg_run.specs.Readers.{frames_of}
-use Rattle.pg_run.specs.State.{State}
+use Rattle.pg_law_effects.specs.pg_run.MachineStep.{step}
+use Rattle.pg_law_effects.specs.pg_run.Readers.{frames_of}
+use Rattle.pg_law_effects.specs.pg_run.State.{State}
 use Rattle.pg_slice_rules.specs.Freeable.{FreeRegion, Regions}
 use Rattle.pg_slice_rules.specs.Known.{caller_target, edge_of, function_in, region_of}
 use Rattle.pg_slice_rules.specs.Moments.{Moment, instr_in, state_after}

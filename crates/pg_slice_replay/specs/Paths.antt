@@ -8,8 +8,8 @@ use Rattle.pg_region_paths.specs.declared.path.RootPath.{RootPath}
 use Rattle.pg_region_paths.specs.Followed.{Followed, cell_at, followed}
 use Rattle.pg_region_paths.specs.Paths.{offsets_of}
 use Rattle.pg_region_accesses.specs.declared.rooted.Rooted.{Rooted}
-use Rattle.pg_run.specs.Readers.{register_of}
-use Rattle.pg_run.specs.State.{State}
+use Rattle.pg_law_effects.specs.pg_run.Readers.{register_of}
+use Rattle.pg_law_effects.specs.pg_run.State.{State}
 use Rattle.pg_slice_rules.specs.Freeable.{FreeAccess, one_access}
 use Rattle.pg_slice_replay.specs.declared.at.At.{At}
 use Rattle.pg_slice_replay.specs.OfRegions.{free_access}

@@ -7,7 +7,7 @@ use Rattle.pg_region_accesses.specs.Tables.{in_table}
 use Rattle.pg_region.specs.declared.region.Region.{Region}
 use Rattle.pg_region.specs.Regions.{IsRegion, RegionOf}
 use Rattle.pg_run_trace.specs.declared.step.Step.{Step}
-use Rattle.pg_run.specs.State.{State}
+use Rattle.pg_law_effects.specs.pg_run.State.{State}
 use Rattle.pg_slice_rules.specs.Freeable.{FreeRegion}
 use Rattle.pg_slice_rules.specs.Known.{is_branch}
 use Rattle.pg_slice_replay.specs.declared.at.At.{At}

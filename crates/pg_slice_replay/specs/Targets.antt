@@ -5,8 +5,8 @@ use Rattle.pg_num.specs.declared.limits.TheConstants.{CALL_DEPTH_LIMIT}
 use Rattle.pg_ir.specs.Program.{NumberedProgram}
 use Rattle.pg_run_thread.specs.LocalState.{Frame}
 use Rattle.pg_run_thread.specs.Operands.{flat}
-use Rattle.pg_run.specs.Readers.{frames_of}
-use Rattle.pg_run.specs.State.{State}
+use Rattle.pg_law_effects.specs.pg_run.Readers.{frames_of}
+use Rattle.pg_law_effects.specs.pg_run.State.{State}
 use Rattle.pg_slice_rules.specs.Known.{target_of}
 
 -- where the register of a call of thread t stands above which so many calls are

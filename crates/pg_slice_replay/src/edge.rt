@@ -5,13 +5,13 @@ ghost use Rattle.pg_run_thread.specs.Compute.{chosen};
 ghost use Rattle.pg_run_thread.specs.Needs.{EndsBlock};
 ghost use Rattle.pg_run_thread.specs.Operands.{given, operand};
 ghost use Rattle.pg_run_thread.specs.Step.{top_registers};
-ghost use Rattle.pg_run.specs.Readers.{frames_of};
+ghost use Rattle.pg_law_effects.specs.pg_run.Readers.{frames_of};
 ghost use Rattle.pg_slice_rules.specs.Extents.{edge_by};
 ghost use Rattle.pg_slice_rules.specs.Known.{edge_of};
 ghost use Rattle.pg_slice_replay.specs.Landmarks.{moment_in};
 
 use pg_ir::{BlockNo, Instr, Op, Program, ThreadNo, Value};
-use pg_run::Machine;
+use pg_law_effects::pg_run::Machine;
 use pg_run_trace::{Step, StepKind};
 
 /// The value of an operand of a thread's present call, none where it was never set.

@@ -5,16 +5,16 @@ ghost use Rattle.pg_num.specs.Pointers.{moved_by};
 ghost use Rattle.pg_run_memory.specs.Memory.{read};
 ghost use Rattle.pg_region_paths.specs.Followed.{followed_from, root_value};
 ghost use Rattle.pg_region_paths.specs.Paths.{offsets_of};
-ghost use Rattle.pg_run.specs.Readers.{register_of};
+ghost use Rattle.pg_law_effects.specs.pg_run.Readers.{register_of};
 ghost use Rattle.pg_slice_replay.specs.Paths.{Adds, IsLoaded, along, cell_of, followed_in};
 
 use crate::at::{At, rooted_at};
 use pg_ir::{Program, ThreadNo};
+use pg_law_effects::pg_run::Machine;
 use pg_num::layout::GRANULE_BYTES;
 use pg_num::{move_by, place, unpack};
 use pg_region_accesses::Rooted;
 use pg_region_paths::{Loads, Root, RootPath};
-use pg_run::Machine;
 use std::alloc::AllocError;
 
 /// The value of a root of a thread's present call.

@@ -13,8 +13,8 @@ use crate::found::{FoundRegion, Regions, Sought};
 use crate::row::FreeStep;
 use crate::share::shared;
 use pg_ir::{Program, ThreadNo};
+use pg_law_effects::pg_run::Machine;
 use pg_region_accesses::Rooted;
-use pg_run::Machine;
 use pg_run_trace::{Step, StepKind};
 use std::alloc::AllocError;
 

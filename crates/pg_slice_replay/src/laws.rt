@@ -5,10 +5,10 @@ ghost use Rattle.pg_ir.specs.declared.ids.InstrId.{InstrId};
 ghost use Rattle.pg_ir.specs.Program.{NumberedProgram};
 ghost use Rattle.pg_run_trace.specs.declared.step.Step.{Step};
 ghost use Rattle.pg_run_trace.specs.declared.turn.Turn.{Turn};
-ghost use Rattle.pg_run.specs.Follow.{Exits, following_of};
-ghost use Rattle.pg_run.specs.Guided.{guided_of};
-ghost use Rattle.pg_run.specs.Runs.{IsRun};
-ghost use Rattle.pg_run.specs.State.{initial};
+ghost use Rattle.pg_law_effects.specs.pg_run.Follow.{Exits, following_of};
+ghost use Rattle.pg_law_effects.specs.pg_run.Guided.{guided_of};
+ghost use Rattle.pg_law_effects.specs.pg_run.Runs.{IsRun};
+ghost use Rattle.pg_law_effects.specs.pg_run.State.{initial};
 
 /// Where following a schedule exits, its steps are a run of the machine from the first state on.
 pub fn a_followed_run_is_a_run()

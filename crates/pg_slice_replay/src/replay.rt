@@ -3,9 +3,9 @@
 ghost use Rattle.std.specs.Prelude.{◌≡◌, ◌<◌, ℕ, [], length, map, All, IfOk, OnOk, option_map, slice_get};
 ghost use Rattle.pg_ir.specs.declared.ids.InstrId.{InstrId};
 ghost use Rattle.pg_region_accesses.specs.Accesses.{is_gated, summary_of};
-ghost use Rattle.pg_run.specs.Machine.{IsMachine};
-ghost use Rattle.pg_run.specs.Runs.{IsRun};
-ghost use Rattle.pg_run.specs.State.{State, initial};
+ghost use Rattle.pg_law_effects.specs.pg_run.Machine.{IsMachine};
+ghost use Rattle.pg_law_effects.specs.pg_run.Runs.{IsRun};
+ghost use Rattle.pg_law_effects.specs.pg_run.State.{State, initial};
 ghost use Rattle.pg_slice_rules.specs.Freeable.{Regions};
 ghost use Rattle.pg_slice_rules.specs.Moments.{moments_of};
 ghost use Rattle.pg_slice_replay.specs.Kept.{landmark_at, landmark_in, step_count};
@@ -22,8 +22,8 @@ use crate::seek::regions_of;
 use crate::step::{row_of, take_step};
 use crate::targets::{Targets, none_of};
 use pg_ir::{InstrId, Program};
+use pg_law_effects::pg_run::Machine;
 use pg_region_accesses::Summary;
-use pg_run::Machine;
 use pg_run_trace::Trace;
 use std::alloc::{AllocError, Global};
 

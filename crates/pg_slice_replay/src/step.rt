@@ -3,10 +3,10 @@
 ghost use Rattle.std.specs.Prelude.{◌≡◌, ◌<◌, List, length, IfOk, OnOk};
 ghost use Rattle.pg_ir.specs.Program.{function_of};
 ghost use Rattle.pg_region.specs.Regions.{block_of};
-ghost use Rattle.pg_run.specs.Machine.{IsMachine};
-ghost use Rattle.pg_run.specs.MachineStep.{Did, step as machine_step};
-ghost use Rattle.pg_run.specs.Readers.{depth_of};
-ghost use Rattle.pg_run.specs.Runs.{Takes};
+ghost use Rattle.pg_law_effects.specs.pg_run.Machine.{IsMachine};
+ghost use Rattle.pg_law_effects.specs.pg_run.MachineStep.{Did, step as machine_step};
+ghost use Rattle.pg_law_effects.specs.pg_run.Readers.{depth_of};
+ghost use Rattle.pg_law_effects.specs.pg_run.Runs.{Takes};
 ghost use Rattle.pg_slice_rules.specs.Known.{edge_of};
 ghost use Rattle.pg_slice_replay.specs.declared.at.At.{At};
 ghost use Rattle.pg_slice_replay.specs.Landmarks.{moment_in};
@@ -20,7 +20,7 @@ use crate::free::free_step;
 use crate::row::Row;
 use crate::targets::Targets;
 use pg_ir::Program;
-use pg_run::Machine;
+use pg_law_effects::pg_run::Machine;
 use pg_run_trace::Step;
 use std::alloc::{AllocError, Global};
 

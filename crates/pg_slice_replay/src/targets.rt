@@ -3,7 +3,7 @@
 ghost use Rattle.std.specs.Prelude.{◌≡◌, ◌<◌, length, replicate, None, IfOk};
 ghost use Rattle.pg_num.specs.declared.limits.TheConstants.{THREAD_LIMIT};
 ghost use Rattle.pg_ir.specs.Program.{NumberedProgram};
-ghost use Rattle.pg_run.specs.State.{initial};
+ghost use Rattle.pg_law_effects.specs.pg_run.State.{initial};
 ghost use Rattle.pg_slice_replay.specs.Targets.{AreTargets, place_of, target_in, with_target};
 
 use pg_ir::ThreadNo;

@@ -1,10 +1,10 @@
 -- The moments of the computed examples, as a line each.
 use Rattle.std.specs.Prelude.{ℕ, List, Bool, Option, Some}
-use Rattle.pg_run_thread.specs.LocalState.{Frame}
-use Rattle.pg_run_trace.specs.declared.turn.TurnKind.{TurnKind}
-use Rattle.pg_run_trace.specs.declared.step.StepKind.{StepKind}
-use Rattle.pg_run_trace.specs.declared.step.StepKind.TheVariants as kinds
-use Rattle.pg_run_trace.specs.declared.step.Write.{Write}
+use Rattle.pg_run.specs.pg_run_thread.LocalState.{Frame}
+use Rattle.pg_run.specs.pg_run_trace.declared.turn.TurnKind.{TurnKind}
+use Rattle.pg_run.specs.pg_run_trace.declared.step.StepKind.{StepKind}
+use Rattle.pg_run.specs.pg_run_trace.declared.step.StepKind.TheVariants as kinds
+use Rattle.pg_run.specs.pg_run_trace.declared.step.Write.{Write}
 use Rattle.pg_slice_rules.specs.Moments.{Moment}
 
 -- a call by its function, the place that it is at, its registers and the height of its stack

@@ -1,13 +1,13 @@
 -- The extents of freeable branch steps: from such a step until its thread reaches the join of its region in the same frame.
 use Rattle.std.specs.Prelude.{ℕ, ◌==◌, ◌&&◌, not, List, ◌∷◌, filter, Bool, false, Option, Some, None}
 use Rattle.std.specs.List.{list_all}
-use Rattle.pg_ir.specs.declared.instr.Instr.{Instr}
-use Rattle.pg_ir.specs.declared.instr.Op.{Op}
-use Rattle.pg_ir.specs.declared.instr.Op.TheVariants as op
-use Rattle.pg_ir.specs.Program.{NumberedProgram}
-use Rattle.pg_ir.specs.Edges.{case_of}
-use Rattle.pg_run_thread.specs.Compute.{chosen}
-use Rattle.pg_run_thread.specs.Operands as operands
+use Rattle.pg_region_paths.specs.pg_ir.declared.instr.Instr.{Instr}
+use Rattle.pg_region_paths.specs.pg_ir.declared.instr.Op.{Op}
+use Rattle.pg_region_paths.specs.pg_ir.declared.instr.Op.TheVariants as op
+use Rattle.pg_region_paths.specs.pg_ir.Program.{NumberedProgram}
+use Rattle.pg_region_paths.specs.pg_ir.Edges.{case_of}
+use Rattle.pg_run.specs.pg_run_thread.Compute.{chosen}
+use Rattle.pg_run.specs.pg_run_thread.Operands as operands
 use Rattle.pg_slice_rules.specs.Moments.{Moment, registers_in}
 use Rattle.pg_slice_rules.specs.Freeable.{FreeRegion}
 

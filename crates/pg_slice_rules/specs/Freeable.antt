@@ -1,13 +1,13 @@
 -- The region of a branch as it is at a step: where its accesses lead.
 use Rattle.std.specs.Prelude.{ℕ, ◌*◌, ◌&&◌, List, [], ◌∷◌, Bool, true, false, Option, Some, None, slice_get, if◌then◌else◌}
 use Rattle.std.specs.List.{list_any}
-use Rattle.pg_num.specs.Places.{ByteRange}
-use Rattle.pg_num.specs.Pointers.{pointer_of}
-use Rattle.pg_ir.specs.Program.{NumberedProgram}
+use Rattle.pg_precondition.specs.pg_num.Places.{ByteRange}
+use Rattle.pg_precondition.specs.pg_num.Pointers.{pointer_of}
+use Rattle.pg_region_paths.specs.pg_ir.Program.{NumberedProgram}
 use Rattle.pg_region_paths.specs.declared.path.RootPath.{RootPath}
 use Rattle.pg_region_paths.specs.Followed.{Followed, followed}
-use Rattle.pg_run_thread.specs.Operands as operands
-use Rattle.pg_run_trace.specs.Races.{share}
+use Rattle.pg_run.specs.pg_run_thread.Operands as operands
+use Rattle.pg_run.specs.pg_run_trace.Races.{share}
 use Rattle.pg_slice_rules.specs.Moments.{Moment, number_in, registers_in}
 
 -- ---- bounds

@@ -2,30 +2,30 @@
 -- step. What isn't live passes without a trace.
 use Rattle.std.specs.Prelude.{ℕ, suc, ◌-◌, ◌%◌, ◌^◌, ◌==◌, ◌||◌, List, [], ◌∷◌, ◌++◌, length, map, replicate, Bool, true, false, Option, Some, None}
 use Rattle.std.specs.Prelude.{slice_get, slice_set, slice_index, slice_index_or, if◌then◌else◌}
-use Rattle.pg_num.specs.Numbers.{signed, modulus}
-use Rattle.pg_num.specs.declared.width.Width.{Width}
-use Rattle.pg_num.specs.declared.width.Width.TheVariants.{W64}
-use Rattle.pg_ir.specs.declared.library_call.LibraryCall.{LibraryCall}
-use Rattle.pg_ir.specs.declared.library_call.LibraryCall.TheVariants as known
-use Rattle.pg_ir.specs.declared.value.Value.{Value}
-use Rattle.pg_ir.specs.declared.instr.Instr.{Instr}
-use Rattle.pg_ir.specs.declared.instr.Op.{Op}
-use Rattle.pg_ir.specs.declared.instr.Op.TheVariants as op
-use Rattle.pg_ir.specs.Program.{NumberedProgram, types_of, parameter_count}
-use Rattle.pg_ir.specs.Edges.{incoming_from, incoming_of, phis_of}
-use Rattle.pg_run_memory.specs.Initial.{initial_byte}
+use Rattle.pg_precondition.specs.pg_num.Numbers.{signed, modulus}
+use Rattle.pg_precondition.specs.pg_num.declared.width.Width.{Width}
+use Rattle.pg_precondition.specs.pg_num.declared.width.Width.TheVariants.{W64}
+use Rattle.pg_region_paths.specs.pg_ir.declared.library_call.LibraryCall.{LibraryCall}
+use Rattle.pg_region_paths.specs.pg_ir.declared.library_call.LibraryCall.TheVariants as known
+use Rattle.pg_region_paths.specs.pg_ir.declared.value.Value.{Value}
+use Rattle.pg_region_paths.specs.pg_ir.declared.instr.Instr.{Instr}
+use Rattle.pg_region_paths.specs.pg_ir.declared.instr.Op.{Op}
+use Rattle.pg_region_paths.specs.pg_ir.declared.instr.Op.TheVariants as op
+use Rattle.pg_region_paths.specs.pg_ir.Program.{NumberedProgram, types_of, parameter_count}
+use Rattle.pg_region_paths.specs.pg_ir.Edges.{incoming_from, incoming_of, phis_of}
+use Rattle.pg_run.specs.pg_run_memory.Initial.{initial_byte}
 use Rattle.pg_precondition.specs.Values.{with_one}
-use Rattle.pg_num.specs.Inputs.{input_at}
-use Rattle.pg_run_thread.specs.LocalState.{Frame}
-use Rattle.pg_run_thread.specs.Operands.{operands_of}
-use Rattle.pg_run_trace.specs.declared.turn.TurnKind.{TurnKind}
-use Rattle.pg_run_trace.specs.declared.turn.TurnKind.TheVariants as turns
-use Rattle.pg_run_trace.specs.declared.step.StepKind.{StepKind}
-use Rattle.pg_run_trace.specs.declared.step.StepKind.TheVariants as kinds
-use Rattle.pg_run_trace.specs.declared.step.Access.{Access}
-use Rattle.pg_run_trace.specs.declared.step.Event.{Event}
-use Rattle.pg_run_trace.specs.declared.step.Write.{Write}
-use Rattle.pg_run_trace.specs.Steps.{range_of, write_by}
+use Rattle.pg_precondition.specs.pg_num.Inputs.{input_at}
+use Rattle.pg_run.specs.pg_run_thread.LocalState.{Frame}
+use Rattle.pg_run.specs.pg_run_thread.Operands.{operands_of}
+use Rattle.pg_run.specs.pg_run_trace.declared.turn.TurnKind.{TurnKind}
+use Rattle.pg_run.specs.pg_run_trace.declared.turn.TurnKind.TheVariants as turns
+use Rattle.pg_run.specs.pg_run_trace.declared.step.StepKind.{StepKind}
+use Rattle.pg_run.specs.pg_run_trace.declared.step.StepKind.TheVariants as kinds
+use Rattle.pg_run.specs.pg_run_trace.declared.step.Access.{Access}
+use Rattle.pg_run.specs.pg_run_trace.declared.step.Event.{Event}
+use Rattle.pg_run.specs.pg_run_trace.declared.step.Write.{Write}
+use Rattle.pg_run.specs.pg_run_trace.Steps.{range_of, write_by}
 use Rattle.pg_slice_rules.specs.declared.decision.Decision.{Decision}
 use Rattle.pg_slice_rules.specs.declared.decision.Decision.TheVariants.{Pinned, Exact}
 use Rattle.pg_slice_rules.specs.Moments.{Moment, instr_in, thread_in}

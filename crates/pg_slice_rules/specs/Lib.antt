@@ -11,3 +11,6 @@ pub mod Rooted
 pub mod Offset
 pub mod Counted
 pub mod Summed
+pub use Rattle.pg_run.specs as pg_run
+pub use Rattle.pg_run.specs.pg_run_memory
+pub use Rattle.pg_run.specs.pg_run_thread

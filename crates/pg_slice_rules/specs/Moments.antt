@@ -1,15 +1,15 @@
 -- The reference run: its steps, and of the state before each what its symbolic value rests on.
 use Rattle.std.specs.Prelude.{ℕ, ℤ, List, [], ◌∷◌, Option, Some, None, slice_get}
-use Rattle.pg_num.specs.Places.{ByteRange}
-use Rattle.pg_ir.specs.declared.ids.InstrId.{InstrId}
-use Rattle.pg_ir.specs.declared.instr.Instr.{Instr}
-use Rattle.pg_ir.specs.Program.{NumberedProgram}
-use Rattle.pg_run_memory.specs.Bytes.{number_of}
-use Rattle.pg_run_memory.specs.Memory.{byte_at}
-use Rattle.pg_law_threads.specs.Intervals.{Timed}
-use Rattle.pg_run_thread.specs.LocalState.{Frame, LocalState}
-use Rattle.pg_run_trace.specs.declared.step.Step.{Step}
-use Rattle.pg_run_trace.specs.Races.{recorded, timed_by}
+use Rattle.pg_precondition.specs.pg_num.Places.{ByteRange}
+use Rattle.pg_region_paths.specs.pg_ir.declared.ids.InstrId.{InstrId}
+use Rattle.pg_region_paths.specs.pg_ir.declared.instr.Instr.{Instr}
+use Rattle.pg_region_paths.specs.pg_ir.Program.{NumberedProgram}
+use Rattle.pg_run.specs.pg_run_memory.Bytes.{number_of}
+use Rattle.pg_run.specs.pg_run_memory.Memory.{byte_at}
+use Rattle.pg_run.specs.pg_law_threads.Intervals.{Timed}
+use Rattle.pg_run.specs.pg_run_thread.LocalState.{Frame, LocalState}
+use Rattle.pg_run.specs.pg_run_trace.declared.step.Step.{Step}
+use Rattle.pg_run.specs.pg_run_trace.Races.{recorded, timed_by}
 use Rattle.pg_run.specs.State.{State, initial}
 use Rattle.pg_run.specs.MachineStep.{Stepped, Did, Trapped, step}
 

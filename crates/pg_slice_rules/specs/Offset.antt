@@ -1,17 +1,17 @@
 -- A store through a pointer that is moved by a quotient of the input, on the input 8: 8 divided by it is 1.
 use Rattle.std.specs.Prelude.{ℕ, List, [], ◌∷◌, true, false, Some, None}
-use Rattle.pg_num.specs.declared.width.Width.TheVariants.{W32, W64}
-use Rattle.pg_num.specs.declared.operations.Division.TheVariants.{Sdiv}
-use Rattle.pg_ir.specs.declared.library_call.LibraryCall.TheVariants as known
-use Rattle.pg_ir.specs.declared.value.Scalar.TheVariants.{Int, Ptr}
-use Rattle.pg_ir.specs.declared.value.Scale.TheVariants.{Times}
-use Rattle.pg_ir.specs.declared.value.Value.TheVariants as value
-use Rattle.pg_ir.specs.declared.instr.Op.TheVariants as op
-use Rattle.pg_ir.specs.Program.{NumberedProgram}
-use Rattle.pg_run_memory.specs.Bytes.{with_bytes}
-use Rattle.pg_run_memory.specs.Initial.{initial_byte}
-use Rattle.pg_run_trace.specs.declared.turn.TurnKind.TheVariants as turns
-use Rattle.pg_run_trace.specs.declared.step.StepKind.TheVariants as kinds
+use Rattle.pg_precondition.specs.pg_num.declared.width.Width.TheVariants.{W32, W64}
+use Rattle.pg_precondition.specs.pg_num.declared.operations.Division.TheVariants.{Sdiv}
+use Rattle.pg_region_paths.specs.pg_ir.declared.library_call.LibraryCall.TheVariants as known
+use Rattle.pg_region_paths.specs.pg_ir.declared.value.Scalar.TheVariants.{Int, Ptr}
+use Rattle.pg_region_paths.specs.pg_ir.declared.value.Scale.TheVariants.{Times}
+use Rattle.pg_region_paths.specs.pg_ir.declared.value.Value.TheVariants as value
+use Rattle.pg_region_paths.specs.pg_ir.declared.instr.Op.TheVariants as op
+use Rattle.pg_region_paths.specs.pg_ir.Program.{NumberedProgram}
+use Rattle.pg_run.specs.pg_run_memory.Bytes.{with_bytes}
+use Rattle.pg_run.specs.pg_run_memory.Initial.{initial_byte}
+use Rattle.pg_run.specs.pg_run_trace.declared.turn.TurnKind.TheVariants as turns
+use Rattle.pg_run.specs.pg_run_trace.declared.step.StepKind.TheVariants as kinds
 use Rattle.pg_slice_rules.specs.Moments.{Moment}
 use Rattle.pg_slice_rules.specs.ExampleMoments.{frame, event, writing, access, moment}
 use Rattle.pg_slice_rules.specs.Freeable.{Regions}

@@ -1,17 +1,17 @@
 -- A branch whose region stores through a pointer that an earlier branch chose, on an input of two zeros.
 use Rattle.std.specs.Prelude.{ℕ, ◌==◌, List, [], ◌∷◌, true, Some, None, if◌then◌else◌}
-use Rattle.pg_num.specs.declared.width.Width.TheVariants.{W1, W32, W64}
-use Rattle.pg_num.specs.declared.operations.Compare.TheVariants as compares
-use Rattle.pg_ir.specs.declared.library_call.LibraryCall.TheVariants as known
-use Rattle.pg_ir.specs.declared.value.Scalar.TheVariants.{Int, Ptr}
-use Rattle.pg_ir.specs.declared.value.Value.TheVariants as value
-use Rattle.pg_ir.specs.declared.instr.Op.TheVariants as op
-use Rattle.pg_ir.specs.Program.{NumberedProgram}
-use Rattle.pg_run_memory.specs.Initial.{initial_byte}
+use Rattle.pg_precondition.specs.pg_num.declared.width.Width.TheVariants.{W1, W32, W64}
+use Rattle.pg_precondition.specs.pg_num.declared.operations.Compare.TheVariants as compares
+use Rattle.pg_region_paths.specs.pg_ir.declared.library_call.LibraryCall.TheVariants as known
+use Rattle.pg_region_paths.specs.pg_ir.declared.value.Scalar.TheVariants.{Int, Ptr}
+use Rattle.pg_region_paths.specs.pg_ir.declared.value.Value.TheVariants as value
+use Rattle.pg_region_paths.specs.pg_ir.declared.instr.Op.TheVariants as op
+use Rattle.pg_region_paths.specs.pg_ir.Program.{NumberedProgram}
+use Rattle.pg_run.specs.pg_run_memory.Initial.{initial_byte}
 use Rattle.pg_region_paths.specs.declared.path.Loads.TheVariants.{Never}
 use Rattle.pg_region_paths.specs.declared.path.Root.TheVariants as root
-use Rattle.pg_run_trace.specs.declared.turn.TurnKind.TheVariants as turns
-use Rattle.pg_run_trace.specs.declared.step.StepKind.TheVariants as kinds
+use Rattle.pg_run.specs.pg_run_trace.declared.turn.TurnKind.TheVariants as turns
+use Rattle.pg_run.specs.pg_run_trace.declared.step.StepKind.TheVariants as kinds
 use Rattle.pg_slice_rules.specs.Moments.{Moment}
 use Rattle.pg_slice_rules.specs.ExampleMoments.{frame, event, writing, access, moment}
 use Rattle.pg_slice_rules.specs.Freeable.{Regions}

@@ -1,15 +1,15 @@
 -- What a reference run asks of decisions, rule by rule: the decisions that are missing, and what an input must give.
 use Rattle.std.specs.Prelude.{ℕ, ◌==◌, ◌&&◌, ◌||◌, not, pos, List, [], ◌∷◌, ◌++◌, map, Bool, true, false, Option, Some, None, slice_index, slice_index_or, if◌then◌else◌}
 use Rattle.std.specs.List.{list_any}
-use Rattle.pg_num.specs.Places.{ByteRange}
-use Rattle.pg_num.specs.Pointers.{moved_by, pointer_of}
-use Rattle.pg_ir.specs.declared.edge.Case.{Case}
-use Rattle.pg_ir.specs.declared.library_call.LibraryCall.{LibraryCall}
-use Rattle.pg_ir.specs.declared.library_call.LibraryCall.TheVariants as known
-use Rattle.pg_ir.specs.declared.instr.Instr.{Instr}
-use Rattle.pg_ir.specs.declared.instr.Op.{Op}
-use Rattle.pg_ir.specs.declared.instr.Op.TheVariants as op
-use Rattle.pg_ir.specs.Program.{NumberedProgram}
+use Rattle.pg_precondition.specs.pg_num.Places.{ByteRange}
+use Rattle.pg_precondition.specs.pg_num.Pointers.{moved_by, pointer_of}
+use Rattle.pg_region_paths.specs.pg_ir.declared.edge.Case.{Case}
+use Rattle.pg_region_paths.specs.pg_ir.declared.library_call.LibraryCall.{LibraryCall}
+use Rattle.pg_region_paths.specs.pg_ir.declared.library_call.LibraryCall.TheVariants as known
+use Rattle.pg_region_paths.specs.pg_ir.declared.instr.Instr.{Instr}
+use Rattle.pg_region_paths.specs.pg_ir.declared.instr.Op.{Op}
+use Rattle.pg_region_paths.specs.pg_ir.declared.instr.Op.TheVariants as op
+use Rattle.pg_region_paths.specs.pg_ir.Program.{NumberedProgram}
 use Rattle.pg_precondition.specs.declared.check.Test.{Test}
 use Rattle.pg_precondition.specs.declared.check.Test.TheVariants as test
 use Rattle.pg_precondition.specs.Values.{with_one}
@@ -17,14 +17,14 @@ use Rattle.pg_region_paths.specs.declared.path.Root.{Root}
 use Rattle.pg_region_paths.specs.declared.path.Root.TheVariants as root
 use Rattle.pg_region_paths.specs.Followed.{root_value}
 use Rattle.pg_region_paths.specs.Paths.{offsets_of}
-use Rattle.pg_run_trace.specs.declared.turn.TurnKind.{TurnKind}
-use Rattle.pg_run_trace.specs.declared.turn.TurnKind.TheVariants as turns
-use Rattle.pg_run_trace.specs.declared.step.StepKind.{StepKind}
-use Rattle.pg_run_trace.specs.declared.step.StepKind.TheVariants as kinds
-use Rattle.pg_run_trace.specs.declared.step.Access.{Access}
-use Rattle.pg_run_trace.specs.declared.step.Event.{Event}
-use Rattle.pg_run_trace.specs.Races.{overlap, share}
-use Rattle.pg_run_trace.specs.Steps.{access_in}
+use Rattle.pg_run.specs.pg_run_trace.declared.turn.TurnKind.{TurnKind}
+use Rattle.pg_run.specs.pg_run_trace.declared.turn.TurnKind.TheVariants as turns
+use Rattle.pg_run.specs.pg_run_trace.declared.step.StepKind.{StepKind}
+use Rattle.pg_run.specs.pg_run_trace.declared.step.StepKind.TheVariants as kinds
+use Rattle.pg_run.specs.pg_run_trace.declared.step.Access.{Access}
+use Rattle.pg_run.specs.pg_run_trace.declared.step.Event.{Event}
+use Rattle.pg_run.specs.pg_run_trace.Races.{overlap, share}
+use Rattle.pg_run.specs.pg_run_trace.Steps.{access_in}
 use Rattle.pg_slice_rules.specs.declared.decision.Decision.{Decision}
 use Rattle.pg_slice_rules.specs.declared.decision.Decision.TheVariants.{Pinned, Exact}
 use Rattle.pg_slice_rules.specs.Moments.{instr_in, thread_in}

@@ -2,19 +2,19 @@
 use Rattle.std.specs.Prelude.{ℕ, zero, suc, ◌+◌, ◌-◌, ◌*◌, ◌%◌, ◌^◌, ◌==◌, ◌&&◌, nat_le, nat_lt, ℤ, List, [], ◌∷◌, Bool, true, false, Option, Some}
 use Rattle.std.specs.Prelude.{None, slice_get, slice_index_or, if◌then◌else◌}
 use Rattle.std.specs.List.{list_all}
-use Rattle.pg_num.specs.Numbers.{divided, truncated}
-use Rattle.pg_num.specs.Places.{ByteRange}
-use Rattle.pg_ir.specs.declared.value.Index.{Index}
-use Rattle.pg_ir.specs.declared.value.Value.{Value}
-use Rattle.pg_ir.specs.declared.value.Value.TheVariants as value
-use Rattle.pg_ir.specs.declared.instr.Op.{Op}
-use Rattle.pg_ir.specs.declared.instr.Op.TheVariants as op
-use Rattle.pg_ir.specs.Program.{NumberedProgram}
-use Rattle.pg_run_memory.specs.Bytes.{byte_of}
+use Rattle.pg_precondition.specs.pg_num.Numbers.{divided, truncated}
+use Rattle.pg_precondition.specs.pg_num.Places.{ByteRange}
+use Rattle.pg_region_paths.specs.pg_ir.declared.value.Index.{Index}
+use Rattle.pg_region_paths.specs.pg_ir.declared.value.Value.{Value}
+use Rattle.pg_region_paths.specs.pg_ir.declared.value.Value.TheVariants as value
+use Rattle.pg_region_paths.specs.pg_ir.declared.instr.Op.{Op}
+use Rattle.pg_region_paths.specs.pg_ir.declared.instr.Op.TheVariants as op
+use Rattle.pg_region_paths.specs.pg_ir.Program.{NumberedProgram}
+use Rattle.pg_run.specs.pg_run_memory.Bytes.{byte_of}
 use Rattle.pg_precondition.specs.Values.{if_divided, number_of, with_both, with_one}
-use Rattle.pg_run_thread.specs.Compute.{computed}
-use Rattle.pg_run_thread.specs.EdgeStep.{is_set}
-use Rattle.pg_run_thread.specs.Operands as operands
+use Rattle.pg_run.specs.pg_run_thread.Compute.{computed}
+use Rattle.pg_run.specs.pg_run_thread.EdgeStep.{is_set}
+use Rattle.pg_run.specs.pg_run_thread.Operands as operands
 use Rattle.pg_slice_rules.specs.declared.decision.Decision.{Decision}
 
 -- a number on each input; none where it rests on a division without a value

@@ -11,5 +11,6 @@ mod values;
 
 pub use growing::added;
 pub use operations::operation;
+pub use pg_slice_rules;
 pub use symbolic_node::SymbolicNode;
 pub use values::{constant, from_input, input_length, low_byte, offset, unset, value, within};

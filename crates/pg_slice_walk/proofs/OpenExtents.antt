@@ -8,18 +8,18 @@ use Rattle.pg_slice_rules.specs.Extents.{Extent, begun, ends, open_after}
 use Rattle.pg_slice_rules.specs.Freeable.{FreeRegion}
 use Rattle.pg_slice_rules.specs.Known.{Reference, SymbolicState, Taken, SymbolicThread, after_step, edge_of, no_thread, region_of, start_of, thread_of}
 use Rattle.pg_slice_rules.specs.Moments.{Moment, instr_in, thread_in}
-use Rattle.pg_law_least.specs.Along.{region_in}
-use Rattle.pg_law_least.specs.Keeps.{AreStacked, ExtentsKeep, every, steps_of}
+use Rattle.pg_slice_back.specs.pg_law_least.Along.{region_in}
+use Rattle.pg_slice_back.specs.pg_law_least.Keeps.{AreStacked, ExtentsKeep, every, steps_of}
 use Rattle.pg_region_paths.proofs.Elements.{here, there}
-use Rattle.pg_law_least.proofs.ThreadsAfterSteps.{thread_made, thread_other, thread_own, made_by, made_in, own_made}
-use Rattle.pg_slice_replay.specs.declared.run.ReferenceRun.{ReferenceRun}
-use Rattle.pg_slice_replay.specs.Kept.{landmark_at}
-use Rattle.pg_slice_replay.specs.Landmarks.{Landmark, landmark_of}
-use Rattle.pg_slice_passes.specs.Given.{HasLandmarks}
+use Rattle.pg_slice_back.proofs.of_pg_law_least.ThreadsAfterSteps.{thread_made, thread_other, thread_own, made_by, made_in, own_made}
+use Rattle.pg_slice_back.specs.pg_slice_replay.declared.run.ReferenceRun.{ReferenceRun}
+use Rattle.pg_slice_back.specs.pg_slice_replay.Kept.{landmark_at}
+use Rattle.pg_slice_back.specs.pg_slice_replay.Landmarks.{Landmark, landmark_of}
+use Rattle.pg_slice_back.specs.pg_slice_passes.Given.{HasLandmarks}
 use Rattle.pg_slice_walk.specs.Chains.{AreHeld, AreOlder, Holds, IsChain, IsHeld, IsLeft, IsNoted, begun_by}
-use Rattle.pg_law_demands.proofs.StepBack.{of_every}
+use Rattle.pg_slice_back.proofs.of_pg_law_demands.StepBack.{of_every}
 use Rattle.pg_slice_back.proofs.KnownBefore.{at_step, next_step}
-use Rattle.pg_law_demands.specs.Along.{known_at, known_from}
+use Rattle.pg_slice_back.specs.pg_law_demands.Along.{known_at, known_from}
 use Rattle.pg_ir.specs.declared.instr.Instr.{Instr}
 use Rattle.pg_ir.specs.Program.{NumberedProgram}
 use Rattle.pg_run_trace.specs.declared.step.Event.{Event}

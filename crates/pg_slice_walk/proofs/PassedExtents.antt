@@ -8,20 +8,20 @@ use Rattle.pg_slice_rules.specs.Moments.{Moment, thread_in}
 use Rattle.pg_slice_rules.specs.Extents.{Extent}
 use Rattle.pg_slice_rules.specs.Freeable.{FreeRegion}
 use Rattle.pg_slice_rules.specs.Known.{Reference, SymbolicState, Seen, Taken, after_step, start_of, thread_of}
-use Rattle.pg_law_least.specs.Keeps.{ExtentsKeep, every}
-use Rattle.pg_law_least.proofs.LikeValues.{Likes}
+use Rattle.pg_slice_back.specs.pg_law_least.Keeps.{ExtentsKeep, every}
+use Rattle.pg_slice_back.proofs.of_pg_law_least.LikeValues.{Likes}
 use Rattle.pg_region_paths.proofs.Elements.{cases as cases_in, none_in}
-use Rattle.pg_law_demands.specs.Along.{known_at}
-use Rattle.pg_law_demands.specs.Back.{byte_demand, register_demand, word_demand}
-use Rattle.pg_law_demands.specs.Cells.{Byte, Demand, IsMet, Register}
-use Rattle.pg_law_demands.specs.Passed.{first_free, or_first, passes_cell, passing, passing_by, region_at_step}
-use Rattle.pg_law_demands.proofs.PassedByExtents.{first_in}
-use Rattle.pg_law_demands.proofs.StepsInExtents.{passing_met}
+use Rattle.pg_slice_back.specs.pg_law_demands.Along.{known_at}
+use Rattle.pg_slice_back.specs.pg_law_demands.Back.{byte_demand, register_demand, word_demand}
+use Rattle.pg_slice_back.specs.pg_law_demands.Cells.{Byte, Demand, IsMet, Register}
+use Rattle.pg_slice_back.specs.pg_law_demands.Passed.{first_free, or_first, passes_cell, passing, passing_by, region_at_step}
+use Rattle.pg_slice_back.proofs.of_pg_law_demands.PassedByExtents.{first_in}
+use Rattle.pg_slice_back.proofs.of_pg_law_demands.StepsInExtents.{passing_met}
 use Rattle.pg_slice_demands.specs.declared.demanded.Demanded.{Demanded}
 use Rattle.pg_slice_demands.specs.Asked.{asked_of, asks_byte}
 use Rattle.pg_slice_back.specs.Met.{AreMet}
 use Rattle.pg_slice_walk.specs.Sets.{Passes}
-use Rattle.pg_law_demands.proofs.StepBack.{of_every}
+use Rattle.pg_slice_back.proofs.of_pg_law_demands.StepBack.{of_every}
 use Rattle.pg_slice_back.proofs.KnownBefore.{At, at_step, next_step, the_link}
 use Rattle.pg_slice_walk.proofs.OpenExtents.{in_run}
 use Rattle.pg_slice_walk.proofs.StepsInExtents.{Begins, inside, opened}

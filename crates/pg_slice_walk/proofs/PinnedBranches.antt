@@ -7,15 +7,15 @@ use Rattle.pg_slice_rules.specs.Moments.{Moment, thread_in}
 use Rattle.pg_slice_rules.specs.Extents.{Extent, is_live}
 use Rattle.pg_slice_rules.specs.Freeable.{FreeRegion}
 use Rattle.pg_slice_rules.specs.Known.{Reference, SymbolicState, Taken, registers_of, thread_of}
-use Rattle.pg_law_least.specs.Keeps.{ExtentsKeep, every}
-use Rattle.pg_law_least.proofs.LikeValues.{Likes}
-use Rattle.pg_law_least.proofs.OldestFreeExtent.{or_this, stand}
+use Rattle.pg_slice_back.specs.pg_law_least.Keeps.{ExtentsKeep, every}
+use Rattle.pg_slice_back.proofs.of_pg_law_least.LikeValues.{Likes}
+use Rattle.pg_slice_back.proofs.of_pg_law_least.OldestFreeExtent.{or_this, stand}
 use Rattle.pg_region_paths.proofs.Elements.{here}
-use Rattle.pg_law_demands.specs.Along.{known_at}
-use Rattle.pg_law_demands.specs.Back.{byte_demand, register_demand}
-use Rattle.pg_law_demands.specs.Cells.{Demand, IsMet}
-use Rattle.pg_law_demands.specs.Passed.{count_at, may_set_cell, region_at_step, sets_any}
-use Rattle.pg_law_demands.proofs.StepsInExtents.{pinned_if}
+use Rattle.pg_slice_back.specs.pg_law_demands.Along.{known_at}
+use Rattle.pg_slice_back.specs.pg_law_demands.Back.{byte_demand, register_demand}
+use Rattle.pg_slice_back.specs.pg_law_demands.Cells.{Demand, IsMet}
+use Rattle.pg_slice_back.specs.pg_law_demands.Passed.{count_at, may_set_cell, region_at_step, sets_any}
+use Rattle.pg_slice_back.proofs.of_pg_law_demands.StepsInExtents.{pinned_if}
 use Rattle.pg_slice_demands.specs.declared.demanded.Demanded.{Demanded}
 use Rattle.pg_slice_back.specs.Met.{AreMet}
 use Rattle.pg_slice_back.specs.Sets.{AsksRegion}

@@ -2,14 +2,14 @@
 use Rattle.std.proofs.Common.{◌≡◌, ℕ, ◌<◌, Bool, true, false, Option, Some, None, refl, sym, subst, inl, inr}
 use Rattle.std.specs.Prelude.{IfSome}
 use Rattle.pg_slice_rules.specs.Freeable.{FreeRegion}
-use Rattle.pg_law_least.specs.Keeps.{may_write}
+use Rattle.pg_slice_back.specs.pg_law_least.Keeps.{may_write}
 use Rattle.pg_slice_demands.specs.declared.demanded.Demanded.{Demanded}
 use Rattle.pg_slice_demands.specs.Asked.{asked_of}
 use Rattle.pg_slice_back.specs.Leaves.{IsLess}
 use Rattle.pg_slice_back.specs.Sets.{AsksRegion}
-use Rattle.pg_slice_replay.specs.declared.run.ReferenceRun.{ReferenceRun}
-use Rattle.pg_slice_replay.specs.Kept.{landmark_at}
-use Rattle.pg_slice_replay.specs.Landmarks.{Landmark}
+use Rattle.pg_slice_back.specs.pg_slice_replay.declared.run.ReferenceRun.{ReferenceRun}
+use Rattle.pg_slice_back.specs.pg_slice_replay.Kept.{landmark_at}
+use Rattle.pg_slice_back.specs.pg_slice_replay.Landmarks.{Landmark}
 use Rattle.pg_slice_walk.specs.Sets.{Passes, PassesAt, SetsAt, SetsNone}
 
 -- ---- what is told of a step's landmark

@@ -7,21 +7,21 @@ use Rattle.pg_slice_rules.specs.Moments.{Moment, thread_in}
 use Rattle.pg_slice_rules.specs.Extents.{Extent}
 use Rattle.pg_slice_rules.specs.Freeable.{FreeRegion}
 use Rattle.pg_slice_rules.specs.Known.{Reference, Taken, registers_of, thread_of}
-use Rattle.pg_law_least.specs.Along.{region_in}
-use Rattle.pg_law_least.specs.Keeps.{every}
-use Rattle.pg_law_least.proofs.OldestFreeExtent.{live_more}
+use Rattle.pg_slice_back.specs.pg_law_least.Along.{region_in}
+use Rattle.pg_slice_back.specs.pg_law_least.Keeps.{every}
+use Rattle.pg_slice_back.proofs.of_pg_law_least.OldestFreeExtent.{live_more}
 use Rattle.pg_region_paths.proofs.Elements.{here}
-use Rattle.pg_law_demands.specs.Along.{known_at}
-use Rattle.pg_law_demands.specs.Passed.{region_at_step, region_then}
+use Rattle.pg_slice_back.specs.pg_law_demands.Along.{known_at}
+use Rattle.pg_slice_back.specs.pg_law_demands.Passed.{region_at_step, region_then}
 use Rattle.pg_slice_demands.specs.declared.demanded.Demanded.{Demanded}
 use Rattle.pg_slice_back.specs.Sets.{AsksRegion}
 use Rattle.pg_slice_back.specs.declared.registers.Counts.{Counts}
 use Rattle.pg_slice_back.specs.Leaves.{IsLess}
 use Rattle.pg_slice_back.proofs.NeedsBackOverSteps.{less_met}
 use Rattle.pg_slice_back.specs.Met.{AreMet}
-use Rattle.pg_slice_replay.specs.declared.run.ReferenceRun.{ReferenceRun}
-use Rattle.pg_slice_replay.specs.Kept.{landmark_at}
-use Rattle.pg_slice_replay.specs.Landmarks.{Landmark, landmark_of}
+use Rattle.pg_slice_back.specs.pg_slice_replay.declared.run.ReferenceRun.{ReferenceRun}
+use Rattle.pg_slice_back.specs.pg_slice_replay.Kept.{landmark_at}
+use Rattle.pg_slice_back.specs.pg_slice_replay.Landmarks.{Landmark, landmark_of}
 use Rattle.pg_slice_walk.specs.Chains.{AreOlder, IsChain}
 use Rattle.pg_slice_walk.specs.Sets.{Passes, PassesAt, SetsAt}
 use Rattle.pg_slice_walk.specs.Settled.{ArePinned, Leads}

@@ -5,7 +5,7 @@ use Rattle.std.proofs.lemmas.Bool.{false≢true}
 use Rattle.pg_slice_rules.specs.Closed.{AreWithin}
 use Rattle.pg_slice_rules.specs.Extents.{Extent, is_live}
 use Rattle.pg_slice_rules.specs.Known.{Taken}
-use Rattle.pg_law_least.proofs.OldestFreeExtent.{live_more}
+use Rattle.pg_slice_back.proofs.of_pg_law_least.OldestFreeExtent.{live_more}
 use Rattle.pg_slice_walk.specs.Chains.{IsChain}
 use Rattle.pg_slice_walk.specs.Settled.{ArePinned, AreSettled}
 use Rattle.pg_slice_walk.proofs.OpenExtents.{get_is}

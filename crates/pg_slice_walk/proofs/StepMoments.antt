@@ -8,7 +8,7 @@ use Rattle.pg_schedule.specs.declared.interval.Turns.TheVariants.{Recorded}
 use Rattle.pg_schedule.specs.Intervals.{intervals_of}
 use Rattle.pg_run_trace.specs.declared.step.Step.{Step}
 use Rattle.pg_slice_rules.specs.Moments.{Moment, moments_of}
-use Rattle.pg_slice_passes.proofs.OneStepMore.{has_moment}
+use Rattle.pg_slice_back.proofs.of_pg_slice_passes.OneStepMore.{has_moment}
 
 an_interval : Interval
 an_interval = record { low = 0; high = 0 }

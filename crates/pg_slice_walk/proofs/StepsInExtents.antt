@@ -17,18 +17,18 @@ use Rattle.pg_slice_rules.specs.Extents.{Extent, begun, ends}
 use Rattle.pg_slice_rules.specs.Freeable.{FreeRegion, Regions}
 use Rattle.pg_slice_rules.specs.SymbolicValues.{Symbolic}
 use Rattle.pg_slice_rules.specs.Known.{Reference, SymbolicState, SymbolicThread, after_step, edge_of, is_branch, region_of, registers_of, thread_of}
-use Rattle.pg_law_least.specs.Along.{region_in}
-use Rattle.pg_law_least.specs.Keeps.{ExtentsKeep, KeepsTo, every, is_branching}
-use Rattle.pg_law_least.proofs.KnownCallCounts.{region_branch}
-use Rattle.pg_law_least.proofs.OldestFreeExtent.{live_every}
-use Rattle.pg_law_least.proofs.ThreadsAfterSteps.{calls_after, own_calls, thread_own}
+use Rattle.pg_slice_back.specs.pg_law_least.Along.{region_in}
+use Rattle.pg_slice_back.specs.pg_law_least.Keeps.{ExtentsKeep, KeepsTo, every, is_branching}
+use Rattle.pg_slice_back.proofs.of_pg_law_least.KnownCallCounts.{region_branch}
+use Rattle.pg_slice_back.proofs.of_pg_law_least.OldestFreeExtent.{live_every}
+use Rattle.pg_slice_back.proofs.of_pg_law_least.ThreadsAfterSteps.{calls_after, own_calls, thread_own}
 use Rattle.pg_region_paths.proofs.Elements.{cases as cases_in, here, none_in, there}
-use Rattle.pg_law_demands.specs.Along.{known_at, known_from}
-use Rattle.pg_law_demands.specs.Cells.{call_at}
-use Rattle.pg_law_demands.proofs.DemandsBack.{eq_false, top_is}
+use Rattle.pg_slice_back.specs.pg_law_demands.Along.{known_at, known_from}
+use Rattle.pg_slice_back.specs.pg_law_demands.Cells.{call_at}
+use Rattle.pg_slice_back.proofs.of_pg_law_demands.DemandsBack.{eq_false, top_is}
 use Rattle.pg_slice_back.specs.Lens.{lens_by_kind, lens_of, rest_of}
 use Rattle.pg_slice_back.proofs.CallRegisterCounts.{kind_lens}
-use Rattle.pg_law_demands.proofs.StepBack.{of_every}
+use Rattle.pg_slice_back.proofs.of_pg_law_demands.StepBack.{of_every}
 use Rattle.pg_slice_walk.proofs.OpenExtents.{begun_before, in_run, next_is, other_next, own_next}
 use Rattle.pg_slice_walk.proofs.StepMoments.{get_there}
 

@@ -12,9 +12,9 @@ use Rattle.pg_run_trace.specs.declared.step.StepKind.TheVariants as kinds
 use Rattle.pg_slice_rules.specs.Moments.{Moment, instr_in, thread_in}
 use Rattle.pg_slice_rules.specs.SymbolicValues.{Symbolic}
 use Rattle.pg_slice_rules.specs.Known.{Reference, SymbolicState, Taken, after_step, exit_symbolic, operand_at, start_of, words_after}
-use Rattle.pg_law_least.proofs.LiveSteps.{known_words}
-use Rattle.pg_law_least.proofs.ThreadsAfterSteps.{length_next, live_at, made_by, made_in, next_made, own_made, own_region, own_words, words_next}
-use Rattle.pg_law_demands.specs.Along.{known_at, known_from}
+use Rattle.pg_slice_back.proofs.of_pg_law_least.LiveSteps.{known_words}
+use Rattle.pg_slice_back.proofs.of_pg_law_least.ThreadsAfterSteps.{length_next, live_at, made_by, made_in, next_made, own_made, own_region, own_words, words_next}
+use Rattle.pg_slice_back.specs.pg_law_demands.Along.{known_at, known_from}
 
 -- a step adds as many words as threads
 event_words : (p : NumberedProgram) (t : ℕ) (v : Event) (kind : TurnKind) (rs : List Symbolic) (o : Op) (words : List Symbolic)

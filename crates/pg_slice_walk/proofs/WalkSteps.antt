@@ -9,16 +9,16 @@ use Rattle.pg_slice_rules.specs.Closed.{AreWithin, IsClosed}
 use Rattle.pg_slice_rules.specs.Extents.{is_live}
 use Rattle.pg_slice_rules.specs.Moments.{Moment, instr_in, thread_in}
 use Rattle.pg_slice_rules.specs.Known.{Reference, Taken, thread_of}
-use Rattle.pg_law_least.specs.Keeps.{every}
-use Rattle.pg_law_least.proofs.OldestFreeExtent.{live_more}
-use Rattle.pg_law_demands.specs.Along.{known_at}
+use Rattle.pg_slice_back.specs.pg_law_least.Keeps.{every}
+use Rattle.pg_slice_back.proofs.of_pg_law_least.OldestFreeExtent.{live_more}
+use Rattle.pg_slice_back.specs.pg_law_demands.Along.{known_at}
 use Rattle.pg_slice_demands.specs.declared.demanded.Demanded.{Demanded}
 use Rattle.pg_slice_demands.specs.Asked.{asked_of, asks_byte}
 use Rattle.pg_slice_back.specs.declared.registers.Counts.{Counts}
 use Rattle.pg_slice_back.specs.Counted.{IsCounted}
 use Rattle.pg_slice_back.specs.Met.{AreMet}
 use Rattle.pg_slice_back.specs.Steps.{IsLiveStep}
-use Rattle.pg_slice_replay.specs.declared.run.ReferenceRun.{ReferenceRun}
+use Rattle.pg_slice_back.specs.pg_slice_replay.declared.run.ReferenceRun.{ReferenceRun}
 use Rattle.pg_slice_walk.specs.Words.{AreWordsMet}
 use Rattle.pg_slice_walk.specs.Settled.{ArePinned}
 use Rattle.pg_slice_walk.specs.Walks.{IsTold, Walks}

@@ -19,19 +19,19 @@ use Rattle.pg_run_trace.specs.Steps.{range_of, write_by}
 use Rattle.pg_slice_rules.specs.Moments.{Moment}
 use Rattle.pg_slice_rules.specs.SymbolicValues.{is_within}
 use Rattle.pg_slice_rules.specs.Known.{Reference, SymbolicState, Taken, function_in}
-use Rattle.pg_law_least.specs.Keeps.{every}
-use Rattle.pg_law_least.proofs.LikeValues.{Likes}
-use Rattle.pg_slice_replay.specs.declared.run.ReferenceRun.{ReferenceRun}
-use Rattle.pg_slice_replay.specs.Kept.{landmark_at}
-use Rattle.pg_slice_replay.specs.Landmarks.{Landmark}
-use Rattle.pg_law_demands.specs.Cells.{IsMet, Word}
-use Rattle.pg_law_demands.specs.Back.{Asked, back, back_byte, back_event, back_exit, back_start, back_top, back_word, back_word_event, back_write, back_written, byte_demand, of_operand, only, register_demand}
-use Rattle.pg_law_demands.specs.Back.{word_demand}
-use Rattle.pg_law_demands.proofs.DemandsBack.{Asks}
-use Rattle.pg_law_demands.proofs.StepBack.{step_back}
+use Rattle.pg_slice_back.specs.pg_law_least.Keeps.{every}
+use Rattle.pg_slice_back.proofs.of_pg_law_least.LikeValues.{Likes}
+use Rattle.pg_slice_back.specs.pg_slice_replay.declared.run.ReferenceRun.{ReferenceRun}
+use Rattle.pg_slice_back.specs.pg_slice_replay.Kept.{landmark_at}
+use Rattle.pg_slice_back.specs.pg_slice_replay.Landmarks.{Landmark}
+use Rattle.pg_slice_back.specs.pg_law_demands.Cells.{IsMet, Word}
+use Rattle.pg_slice_back.specs.pg_law_demands.Back.{Asked, back, back_byte, back_event, back_exit, back_start, back_top, back_word, back_word_event, back_write, back_written, byte_demand, of_operand, only, register_demand}
+use Rattle.pg_slice_back.specs.pg_law_demands.Back.{word_demand}
+use Rattle.pg_slice_back.proofs.of_pg_law_demands.DemandsBack.{Asks}
+use Rattle.pg_slice_back.proofs.of_pg_law_demands.StepBack.{step_back}
 use Rattle.pg_slice_demands.specs.declared.demanded.Demanded.{Demanded}
 use Rattle.pg_slice_demands.specs.Asked.{asks_byte}
-use Rattle.pg_slice_back.specs.declared.call.Call.{Call}
+use Rattle.pg_slice_demands.specs.declared.call.Call.{Call}
 use Rattle.pg_slice_back.specs.declared.registers.Counts.{Counts}
 use Rattle.pg_slice_back.specs.Met.{AreMet}
 use Rattle.pg_slice_back.specs.Steps.{IsCallOf, IsLiveStep}
@@ -134,7 +134,7 @@ module _ (R : Reference) (e : Taken) (p : NumberedProgram) (r : ReferenceRun) (x
             (subst (λ (o : Option Write). Asks e s (back_write v o j.2.0 true)) j.1 stored))
 
     pub start_asks : v.kind ≡ Start → (w : Demanded) → AreMet after w → (at : Call) → IsCallOf m at → (count : ℕ) → counts.present ≡ count → (f : ℕ)
-        → IfSome (landmark_at r n) (λ (l : Landmark). f ≡ l.function) → (thread : ℕ) → (thread ≡ at.thread) × AsksArgument p w f at count → IsMet s (word_demand thread true)
+        → IfSome (landmark_at r n) (λ (l : Landmark). f ≡ l.function) → (thread : ℕ) → (thread ≡ at.thread.0) × AsksArgument p w f at count → IsMet s (word_demand thread true)
     start_asks q w a at call count present f h thread j = subst (λ (i : ℕ). IsMet s (word_demand i true)) (sym (j.0 ∙ call.thread)) (given (parameter_count R.program (function_in m.calls) == 0) refl asked)
       where
         function_is : f ≡ function_in m.calls
@@ -145,7 +145,7 @@ module _ (R : Reference) (e : Taken) (p : NumberedProgram) (r : ReferenceRun) (x
 
         register : IsMet after (register_demand t k 0 true)
         register = subst (λ (i : ℕ). IsMet after (register_demand i k 0 true)) call.thread
-            (subst (λ (i : ℕ). IsMet after (register_demand at.thread i 0 true)) call.depth (a.registers at.thread at.depth 0 true j.1.2))
+            (subst (λ (i : ℕ). IsMet after (register_demand at.thread.0 i 0 true)) call.depth (a.registers at.thread.0 at.depth 0 true j.1.2))
 
         asked : Asks e s (back_start (parameter_count R.program (function_in m.calls)) t k 0 true)
         asked = subst (λ (c : TurnKind). Asks e s (back_event R.program t k m x 0 true c)) q
@@ -162,8 +162,8 @@ module _ (R : Reference) (e : Taken) (p : NumberedProgram) (r : ReferenceRun) (x
     kept_met o g words a = event_words words words (λ w q. q) (λ w q z y. o z) (λ w q z y. g z) a
 
     pub exited_met : v.kind ≡ Exit → (at : Call) → IsCallOf m at → (o : Op) → x.op ≡ o → (old new : List Bool) (w z : Demanded)
-        → ((i : ℕ) → slice_index_or new i false ≡ true → (slice_index_or old i false ≡ true) × (i ≡ at.thread → ⊥))
-        → ((k : SymbolicState) → (slice_index_or old at.thread false ≡ true → AllByRecursion (IsMet k) (back_exit at.thread at.depth true o).demands) → AreMet k w → AreMet k z)
+        → ((i : ℕ) → slice_index_or new i false ≡ true → (slice_index_or old i false ≡ true) × (i ≡ at.thread.0 → ⊥))
+        → ((k : SymbolicState) → (slice_index_or old at.thread.0 false ≡ true → AllByRecursion (IsMet k) (back_exit at.thread.0 at.depth true o).demands) → AreMet k w → AreMet k z)
         → AreWordsMet after old → AreMet s w → AreMet s z × AreWordsMet s new
     exited_met q at call o same old new w z f g a met = (
       g s (λ h. asked (exit_asks q old (subst (λ (i : ℕ). slice_index_or old i false ≡ true) call.thread h) a)) met,
@@ -173,7 +173,7 @@ module _ (R : Reference) (e : Taken) (p : NumberedProgram) (r : ReferenceRun) (x
         apart : Exit ≡ Create → ⊥
         apart c = absurd cc
 
-        asked : AllByRecursion (IsMet s) (back_exit t k true x.op).demands → AllByRecursion (IsMet s) (back_exit at.thread at.depth true o).demands
+        asked : AllByRecursion (IsMet s) (back_exit t k true x.op).demands → AllByRecursion (IsMet s) (back_exit at.thread.0 at.depth true o).demands
         asked h =
             subst (λ (i : ℕ). AllByRecursion (IsMet s) (back_exit i at.depth true o).demands) (sym call.thread)
             (subst (λ (i : ℕ). AllByRecursion (IsMet s) (back_exit t i true o).demands) (sym call.depth)
@@ -181,7 +181,7 @@ module _ (R : Reference) (e : Taken) (p : NumberedProgram) (r : ReferenceRun) (x
 
     pub created_met : v.kind ≡ Create → (at : Call) → IsCallOf m at → (o : Op) → x.op ≡ o → (threads : ℕ) → counts.threads ≡ threads → (old new : List Bool) (w z : Demanded)
         → ((i : ℕ) → slice_index_or new i false ≡ true → (slice_index_or old i false ≡ true) × (i ≡ threads → ⊥))
-        → ((k : SymbolicState) → (slice_index_or old threads false ≡ true → AllByRecursion (IsMet k) (of_operand at.thread at.depth true o 3)) → AreMet k w → AreMet k z)
+        → ((k : SymbolicState) → (slice_index_or old threads false ≡ true → AllByRecursion (IsMet k) (of_operand at.thread.0 at.depth true o 3)) → AreMet k w → AreMet k z)
         → AreWordsMet after old → AreMet s w → AreMet s z × AreWordsMet s new
     created_met q at call o same threads count old new w z f g a met = (
       g s (λ h. asked (create_asks q old (subst (λ (i : ℕ). slice_index_or old i false ≡ true) (sym count) h) a)) met,
@@ -191,7 +191,7 @@ module _ (R : Reference) (e : Taken) (p : NumberedProgram) (r : ReferenceRun) (x
         apart : Exit ≡ Create → ⊥
         apart c = absurd cc
 
-        asked : AllByRecursion (IsMet s) (of_operand t k true x.op 3) → AllByRecursion (IsMet s) (of_operand at.thread at.depth true o 3)
+        asked : AllByRecursion (IsMet s) (of_operand t k true x.op 3) → AllByRecursion (IsMet s) (of_operand at.thread.0 at.depth true o 3)
         asked h =
             subst (λ (i : ℕ). AllByRecursion (IsMet s) (of_operand i at.depth true o 3)) (sym call.thread)
             (subst (λ (i : ℕ). AllByRecursion (IsMet s) (of_operand t i true o 3)) (sym call.depth)

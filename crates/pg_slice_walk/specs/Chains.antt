@@ -6,11 +6,11 @@ use Rattle.pg_slice_rules.specs.Extents.{Extent, ends}
 use Rattle.pg_slice_rules.specs.Freeable.{FreeRegion}
 use Rattle.pg_slice_rules.specs.Known.{Reference, thread_of}
 use Rattle.pg_slice_rules.specs.Moments.{Moment, thread_in}
-use Rattle.pg_law_least.specs.Keeps.{AreStacked, every}
-use Rattle.pg_law_demands.specs.Along.{known_at}
-use Rattle.pg_slice_replay.specs.declared.run.ReferenceRun.{ReferenceRun}
-use Rattle.pg_slice_replay.specs.Kept.{landmark_at}
-use Rattle.pg_slice_replay.specs.Landmarks.{Landmark}
+use Rattle.pg_slice_back.specs.pg_law_least.Keeps.{AreStacked, every}
+use Rattle.pg_slice_back.specs.pg_law_demands.Along.{known_at}
+use Rattle.pg_slice_back.specs.pg_slice_replay.declared.run.ReferenceRun.{ReferenceRun}
+use Rattle.pg_slice_back.specs.pg_slice_replay.Kept.{landmark_at}
+use Rattle.pg_slice_back.specs.pg_slice_replay.Landmarks.{Landmark}
 
 -- the extents from the one before this number on, the last begun first
 abbrev pub IsChain : List ℕ → ℕ → List Extent → Type 0

@@ -1,10 +1,10 @@
 -- What the region of a branch step may set of what has to be known.
 use Rattle.std.specs.Prelude.{◌≡◌, ◌<◌, ℕ, Bool, true, false, Some, IfSome}
 use Rattle.pg_slice_rules.specs.Freeable.{FreeRegion}
-use Rattle.pg_law_least.specs.Keeps.{may_write}
-use Rattle.pg_slice_replay.specs.declared.run.ReferenceRun.{ReferenceRun}
-use Rattle.pg_slice_replay.specs.Kept.{landmark_at}
-use Rattle.pg_slice_replay.specs.Landmarks.{Landmark}
+use Rattle.pg_slice_back.specs.pg_law_least.Keeps.{may_write}
+use Rattle.pg_slice_back.specs.pg_slice_replay.declared.run.ReferenceRun.{ReferenceRun}
+use Rattle.pg_slice_back.specs.pg_slice_replay.Kept.{landmark_at}
+use Rattle.pg_slice_back.specs.pg_slice_replay.Landmarks.{Landmark}
 use Rattle.pg_slice_demands.specs.declared.demanded.Demanded.{Demanded}
 use Rattle.pg_slice_demands.specs.Asked.{asked_of, asks_byte}
 use Rattle.pg_slice_back.specs.Sets.{AsksRegion}

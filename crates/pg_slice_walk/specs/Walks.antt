@@ -6,14 +6,14 @@ use Rattle.pg_run_trace.specs.declared.step.Step.{Step}
 use Rattle.pg_slice_rules.specs.Closed.{AreWithin, IsClosed}
 use Rattle.pg_slice_rules.specs.Freeable.{Regions}
 use Rattle.pg_slice_rules.specs.Known.{Reference, Taken}
-use Rattle.pg_law_least.specs.Keeps.{ExtentsKeep}
-use Rattle.pg_law_demands.specs.Along.{known_at}
+use Rattle.pg_slice_back.specs.pg_law_least.Keeps.{ExtentsKeep}
+use Rattle.pg_slice_back.specs.pg_law_demands.Along.{known_at}
 use Rattle.pg_slice_demands.specs.declared.demanded.Demanded.{Demanded}
 use Rattle.pg_slice_back.specs.declared.registers.Counts.{Counts}
 use Rattle.pg_slice_back.specs.Counted.{AreCounted}
 use Rattle.pg_slice_back.specs.Met.{AreMet}
-use Rattle.pg_slice_replay.specs.declared.run.ReferenceRun.{ReferenceRun}
-use Rattle.pg_slice_passes.specs.Given.{HasLandmarks, reference_of}
+use Rattle.pg_slice_back.specs.pg_slice_replay.declared.run.ReferenceRun.{ReferenceRun}
+use Rattle.pg_slice_back.specs.pg_slice_passes.Given.{HasLandmarks, reference_of}
 use Rattle.pg_slice_walk.specs.Chains.{Holds}
 
 -- what is told of a run

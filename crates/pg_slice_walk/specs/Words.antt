@@ -5,11 +5,11 @@ use Rattle.pg_run_trace.specs.declared.step.Write.{Write}
 use Rattle.pg_run_trace.specs.Steps.{range_of, write_by}
 use Rattle.pg_slice_rules.specs.SymbolicValues.{is_within}
 use Rattle.pg_slice_rules.specs.Known.{SymbolicState}
-use Rattle.pg_law_demands.specs.Cells.{IsMet}
-use Rattle.pg_law_demands.specs.Back.{word_demand}
+use Rattle.pg_slice_back.specs.pg_law_demands.Cells.{IsMet}
+use Rattle.pg_slice_back.specs.pg_law_demands.Back.{word_demand}
 use Rattle.pg_slice_demands.specs.declared.demanded.Demanded.{Demanded}
 use Rattle.pg_slice_demands.specs.Asked.{asked_of, asks_byte}
-use Rattle.pg_slice_back.specs.declared.call.Call.{Call}
+use Rattle.pg_slice_demands.specs.declared.call.Call.{Call}
 
 -- the words of the threads that are marked are known
 pub record AreWordsMet (s : SymbolicState) (words : List Bool) : Type 0 where
@@ -21,4 +21,4 @@ WritesAsked w x = (b : ℕ) × (is_within (range_of (write_by x)) b ≡ true) ×
 
 -- the first register of a call, which has so many, has to be known whole, and its function has parameters
 abbrev pub AsksArgument : NumberedProgram → Demanded → ℕ → Call → ℕ → Type 0
-AsksArgument p w f at count = (parameter_count p f ≡ 0 → ⊥) × (0 < count) × (asked_of w at.thread at.depth 0 ≡ Some true)
+AsksArgument p w f at count = (parameter_count p f ≡ 0 → ⊥) × (0 < count) × (asked_of w at.thread.0 at.depth 0 ≡ Some true)

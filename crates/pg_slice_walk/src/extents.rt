@@ -23,14 +23,14 @@ pub(crate) fn unsettled(
     alloc: Global,
     holders: &[u32],
     settled: &[bool],
-    n: usize,
+    number: usize,
 ) -> Result<Vec<usize>, AllocError>
     requires { AreOlder holders.now }
-    ensures { IfOk result (λ v. (rest : ℕ) × Leads holders.now (slice_index_or holders.now n 0) v.items rest
+    ensures { IfOk result (λ v. (rest : ℕ) × Leads holders.now (slice_index_or holders.now number 0) v.items rest
         × ((d : Taken) → AreSettled holders.now d settled.now → ArePinned holders.now d rest)) }
 {
     let mut list = Vec::new(alloc);
-    let mut holder = holder_at(holders, n);
+    let mut holder = holder_at(holders, number);
     while !is_settled(settled, holder) {
         list.push(holder as usize - 1)?;
         holder = holder_at(holders, holder as usize - 1);

@@ -8,20 +8,20 @@ ghost use Rattle.pg_slice_rules.specs.Extents.{Extent};
 ghost use Rattle.pg_slice_rules.specs.Freeable.{Regions};
 ghost use Rattle.pg_slice_rules.specs.Known.{Reference};
 ghost use Rattle.pg_slice_rules.specs.Moments.{Moment, thread_in};
-ghost use Rattle.pg_law_least.specs.Keeps.{AreStacked, ExtentsKeep};
-ghost use Rattle.pg_slice_replay.specs.Kept.{landmark_at, step_count};
-ghost use Rattle.pg_slice_passes.specs.Given.{HasLandmarks, reference_of};
+ghost use Rattle.pg_slice_back.specs.pg_law_least.Keeps.{AreStacked, ExtentsKeep};
+ghost use Rattle.pg_slice_back.specs.pg_slice_replay.Kept.{landmark_at, step_count};
+ghost use Rattle.pg_slice_back.specs.pg_slice_passes.Given.{HasLandmarks, reference_of};
 ghost use Rattle.pg_slice_walk.specs.Chains.{AreHeld, AreOlder, Holds, IsHeld, IsNoted, begun_by};
 
 use pg_run_trace::Trace;
-use pg_slice_replay::ReferenceRun;
+use pg_slice_back::pg_slice_replay::ReferenceRun;
 use std::alloc::{AllocError, Global};
 
 /// The number behind that of the branch step of the innermost extent that is open before a step; 0 where none is.
-pub fn holder_at(holders: &[u32], n: usize) -> u32
-    ensures { result ≡ slice_index_or holders.now n 0 }
+pub fn holder_at(holders: &[u32], number: usize) -> u32
+    ensures { result ≡ slice_index_or holders.now number 0 }
 {
-    match holders.get(n) {
+    match holders.get(number) {
         Some(holder) => *holder,
         None => 0,
     }
@@ -38,47 +38,57 @@ fn is_this(number: Option<u32>, this: u32) -> bool
 }
 
 /// Whether the extent of a branch step ends where a thread with so many calls enters a block.
-fn ends(r: &ReferenceRun, b: usize, depth: u32, block: u32) -> bool
-    ensures { (x : Extent) → x.step ≡ b → IsNoted r.now x → result ≡ extents.ends depth (Some block) x }
+fn ends(reference: &ReferenceRun, b: usize, depth: u32, block: u32) -> bool
+    ensures { (x : Extent) → x.step ≡ b → IsNoted reference.now x → result ≡ extents.ends depth (Some block) x }
 {
-    r.depth(b) == depth && is_this(r.join(b), block)
+    reference.depth(b) == depth && is_this(reference.join(b), block)
 }
 
 /// The innermost extent that is left open, from one on, where a thread with so many calls enters a block.
-fn left_at(r: &ReferenceRun, holders: &[u32], inner: u32, depth: u32, block: u32) -> u32
+fn left_at(reference: &ReferenceRun, holders: &[u32], inner: u32, depth: u32, block: u32) -> u32
     requires { AreOlder holders.now }
     ensures older { result ≤ inner }
-    ensures left { (es : List Extent) → AreStacked depth (Some block) es → IsHeld r.now holders.now inner es
-        → IsHeld r.now holders.now result (filter (λ (e : Extent). not (extents.ends depth (Some block) e)) es) }
+    ensures left { (es : List Extent) → AreStacked depth (Some block) es → IsHeld reference.now holders.now inner es
+        → IsHeld reference.now holders.now result (filter (λ (e : Extent). not (extents.ends depth (Some block) e)) es) }
 {
     let mut left = inner;
-    while left != 0 && ends(r, left as usize - 1, depth, block) {
+    while left != 0 && ends(reference, left as usize - 1, depth, block) {
         left = holder_at(holders, left as usize - 1);
     }
     left
 }
 
 /// The innermost extent that a step leaves open, from one on, by the edge that it takes, if it takes one.
-fn left_open(r: &ReferenceRun, holders: &[u32], inner: u32, depth: u32, edge: Option<u32>) -> u32
+fn left_open(
+    reference: &ReferenceRun,
+    holders: &[u32],
+    inner: u32,
+    depth: u32,
+    edge: Option<u32>,
+) -> u32
     requires { AreOlder holders.now }
     ensures older { result ≤ inner }
-    ensures left { (es : List Extent) → AreStacked depth edge es → IsHeld r.now holders.now inner es
-        → IsHeld r.now holders.now result (filter (λ (e : Extent). not (extents.ends depth edge e)) es) }
+    ensures left { (es : List Extent) → AreStacked depth edge es → IsHeld reference.now holders.now inner es
+        → IsHeld reference.now holders.now result (filter (λ (e : Extent). not (extents.ends depth edge e)) es) }
 {
     match edge {
-        Some(block) => left_at(r, holders, inner, depth, block),
+        Some(block) => left_at(reference, holders, inner, depth, block),
         None => inner,
     }
 }
 
 /// The innermost extent that is open behind the beginning of a step, by the one before it.
-fn begun(r: &ReferenceRun, n: usize, before: u32) -> u32
-    requires few { n < 4294967295 }
-    requires number { n < step_count r.now }
-    ensures first { IfSome (landmark_at r.now n) (λ l. result ≡ begun_by l.region n before) }
-    ensures older { before ≤ n → result ≤ n + 1 }
+fn begun(reference: &ReferenceRun, number: usize, before: u32) -> u32
+    requires few { number < 4294967295 }
+    requires number { number < step_count reference.now }
+    ensures first { IfSome (landmark_at reference.now number) (λ l. result ≡ begun_by l.region number before) }
+    ensures older { before ≤ number → result ≤ number + 1 }
 {
-    if r.is_free(n) { n as u32 + 1 } else { before }
+    if reference.is_free(number) {
+        number as u32 + 1
+    } else {
+        before
+    }
 }
 
 /// Sets the innermost extent of a thread.
@@ -105,29 +115,35 @@ fn no_holders(alloc: Global) -> Vec<u32>
 
 /// Notes the innermost extent that is open before step n of a thread, and which it leaves open.
 fn hold(
-    r: &ReferenceRun,
+    reference: &ReferenceRun,
     thread: usize,
-    n: usize,
+    number: usize,
     holders: &mut Vec<u32>,
     tops: &mut Vec<u32>,
 ) -> Result<(), AllocError>
     requires thread { thread < length tops.old.items }
-    requires few { n < 4294967295 }
-    requires number { n < step_count r.now }
-    requires long { length holders.old.items ≡ n }
+    requires few { number < 4294967295 }
+    requires number { number < step_count reference.now }
+    requires long { length holders.old.items ≡ number }
     requires older { AreOlder holders.old.items }
-    requires begun { (u : ℕ) → slice_index_or tops.old.items u 0 ≤ n }
+    requires begun { (u : ℕ) → slice_index_or tops.old.items u 0 ≤ number }
     ensures tops { OnOk result (length tops.new.items ≡ length tops.old.items) }
-    ensures long { OnOk result (length holders.new.items ≡ n + 1) }
+    ensures long { OnOk result (length holders.new.items ≡ number + 1) }
     ensures older { OnOk result (AreOlder holders.new.items) }
-    ensures begun { OnOk result ((u : ℕ) → slice_index_or tops.new.items u 0 ≤ n + 1) }
-    ensures held { OnOk result ((R : Reference) (m : Moment) → HasLandmarks R r.now → ExtentsKeep R → slice_get R.moments n ≡ Some m → thread_in m ≡ thread
-        → AreHeld R r.now n holders.old.items tops.old.items → AreHeld R r.now (n + 1) holders.new.items tops.new.items) }
+    ensures begun { OnOk result ((u : ℕ) → slice_index_or tops.new.items u 0 ≤ number + 1) }
+    ensures held { OnOk result ((R : Reference) (m : Moment) → HasLandmarks R reference.now → ExtentsKeep R → slice_get R.moments number ≡ Some m → thread_in m ≡ thread
+        → AreHeld R reference.now number holders.old.items tops.old.items → AreHeld R reference.now (number + 1) holders.new.items tops.new.items) }
 {
     let before = holder_at(tops.as_slice(), thread);
     holders.push(before)?;
-    let inner = begun(r, n, before);
-    let left = left_open(r, holders.as_slice(), inner, r.depth(n), r.edge(n));
+    let inner = begun(reference, number, before);
+    let left = left_open(
+        reference,
+        holders.as_slice(),
+        inner,
+        reference.depth(number),
+        reference.edge(number),
+    );
     set_top(tops, thread, left);
     Ok(())
 }
@@ -137,17 +153,28 @@ fn hold(
 /// # Errors
 ///
 /// Where no memory is left.
-pub fn holders(alloc: Global, t: &Trace, r: &ReferenceRun) -> Result<Vec<u32>, AllocError>
-    requires count { step_count r.now ≡ length t.now.steps }
-    requires few { length t.now.steps < 4294967296 }
+pub fn holders(
+    alloc: Global,
+    trace: &Trace,
+    reference: &ReferenceRun,
+) -> Result<Vec<u32>, AllocError>
+    requires count { step_count reference.now ≡ length trace.now.steps }
+    requires few { length trace.now.steps < 4294967296 }
     ensures older { IfOk result (λ v. AreOlder v.items) }
-    ensures holds { IfOk result (λ v. (p : NumberedProgram) (regions : Regions) (gated : List InstrId) (input : List ℤ) → HasLandmarks (reference_of p regions gated input t.now.steps) r.now
-        → ExtentsKeep (reference_of p regions gated input t.now.steps) → Holds (reference_of p regions gated input t.now.steps) r.now v.items) }
+    ensures holds { IfOk result (λ v. (p : NumberedProgram) (regions : Regions) (gated : List InstrId) (input : List ℤ)
+        → HasLandmarks (reference_of p regions gated input trace.now.steps) reference.now
+        → ExtentsKeep (reference_of p regions gated input trace.now.steps) → Holds (reference_of p regions gated input trace.now.steps) reference.now v.items) }
 {
     let mut tops = no_tops(alloc)?;
     let mut holders = no_holders(alloc);
-    for n in 0..t.len() {
-        hold(r, t.step(n).thread.0 as usize, n, &mut holders, &mut tops)?;
+    for n in 0..trace.len() {
+        hold(
+            reference,
+            trace.step(n).thread.0 as usize,
+            n,
+            &mut holders,
+            &mut tops,
+        )?;
     }
     Ok(holders)
 }

@@ -8,4 +8,6 @@ pub mod marks;
 mod walk;
 mod words;
 
-pub use walk::widen;
+pub use pg_slice_back;
+pub use pg_slice_back::{pg_slice_passes, pg_slice_replay};
+pub use walk::{Walk, widen};

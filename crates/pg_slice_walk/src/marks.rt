@@ -4,22 +4,22 @@ ghost use Rattle.std.specs.Prelude.{◌≡◌, ◌⊎◌, ℕ, true, false, IfOk
 use std::alloc::{AllocError, Global};
 
 /// Whether a mark is set; not where there is none.
-pub fn mark_at(marks: &[bool], n: usize) -> bool
-    ensures { result ≡ slice_index_or marks.now n false }
+pub fn mark_at(marks: &[bool], number: usize) -> bool
+    ensures { result ≡ slice_index_or marks.now number false }
 {
-    match marks.get(n) {
+    match marks.get(number) {
         Some(mark) => *mark,
         None => false,
     }
 }
 
 /// Sets a mark, if there is one.
-pub fn set_mark(marks: &mut Vec<bool>, n: usize)
-    ensures only { (i : ℕ) → slice_index_or marks.new.items i false ≡ true → (slice_index_or marks.old.items i false ≡ true) ⊎ (i ≡ n) }
-    ensures set { marks.new.items ≡ slice_set marks.old.items n true }
+pub fn set_mark(marks: &mut Vec<bool>, number: usize)
+    ensures only { (i : ℕ) → slice_index_or marks.new.items i false ≡ true → (slice_index_or marks.old.items i false ≡ true) ⊎ (i ≡ number) }
+    ensures set { marks.new.items ≡ slice_set marks.old.items number true }
 {
-    if n < marks.len() {
-        marks[n] = true;
+    if number < marks.len() {
+        marks[number] = true;
     }
 }
 

@@ -6,11 +6,11 @@ ghost use Rattle.pg_slice_back.specs.Leaves.{IsLess};
 ghost use Rattle.pg_slice_rules.specs.Closed.{AreWithin, IsClosed};
 ghost use Rattle.pg_slice_rules.specs.Known.{Reference, Taken};
 ghost use Rattle.pg_slice_rules.specs.Moments.{Moment, thread_in};
-ghost use Rattle.pg_slice_decisions.specs.Steps.{AreOf, left_by, taken_by};
+ghost use Rattle.pg_slice_back.specs.pg_slice_decisions.Steps.{AreOf, left_by, taken_by};
 ghost use Rattle.pg_slice_demands.specs.Asked.{asked_of};
-ghost use Rattle.pg_slice_replay.specs.Kept.{step_count};
-ghost use Rattle.pg_slice_passes.specs.Given.{AreSteps, EdgesStand};
-ghost use Rattle.pg_law_demands.specs.Along.{known_at};
+ghost use Rattle.pg_slice_back.specs.pg_slice_replay.Kept.{step_count};
+ghost use Rattle.pg_slice_back.specs.pg_slice_passes.Given.{AreSteps, EdgesStand};
+ghost use Rattle.pg_slice_back.specs.pg_law_demands.Along.{known_at};
 ghost use Rattle.pg_slice_walk.specs.Chains.{AreOlder};
 ghost use Rattle.pg_slice_walk.specs.Words.{AreWordsMet};
 ghost use Rattle.pg_slice_walk.specs.Sets.{PassesAt, SetsAt};
@@ -20,20 +20,31 @@ ghost use Rattle.pg_slice_walk.specs.Walks.{IsTold, Walks, Widens};
 use crate::extents::unsettled;
 use crate::marks::{no_marks, set_mark};
 use crate::words::{back_one, no_words};
-use pg_ir::Program;
+use pg_ir::{Program, ThreadNo};
 use pg_run_trace::Trace;
-use pg_slice_back::{Call, Counts, sets_any};
-use pg_slice_decisions::DecisionSet;
-use pg_slice_demands::Demanded;
-use pg_slice_replay::ReferenceRun;
+use pg_slice_back::pg_slice_decisions::DecisionSet;
+use pg_slice_back::pg_slice_replay::ReferenceRun;
+use pg_slice_back::{Counts, sets_any};
+use pg_slice_demands::{Call, Demanded};
 use pg_slice_rules::Decision;
 use std::alloc::{AllocError, Global};
 
+/// A run that is gone back over: its program, its steps and its replay; of each step the number behind that of the branch step of
+/// the innermost extent that is open before it, as `holders` gives it; and how many registers calls have before each step.
+#[derive(Clone, Copy)]
+pub struct Walk<'a> {
+    pub program: &'a Program,
+    pub trace: &'a Trace,
+    pub reference: &'a ReferenceRun,
+    pub holders: &'a [u32],
+    pub counts: &'a [Counts],
+}
+
 /// How many registers calls have at a step; none where nothing is told of it.
-fn counts_at(counts: &[Counts], n: usize) -> Counts
-    ensures { (c : ACounts) → slice_get counts.now n ≡ Some c → result ≡ c }
+fn counts_at(counts: &[Counts], number: usize) -> Counts
+    ensures { (c : ACounts) → slice_get counts.now number ≡ Some c → result ≡ c }
 {
-    match counts.get(n) {
+    match counts.get(number) {
         Some(count) => *count,
         None => Counts {
             present: 0,
@@ -44,13 +55,13 @@ fn counts_at(counts: &[Counts], n: usize) -> Counts
 }
 
 /// Nothing is asked any more of a call, and of those that began after it, if a register is asked of it that it hasn't.
-fn leave_missing(w: &mut Demanded, thread: u8, depth: u32, count: usize)
-    ensures less { IsLess w.old w.new }
-    ensures there { (i : ℕ) (v : Bool) → asked_of w.new thread depth i ≡ Some v → i < count }
+fn leave_missing(demanded: &mut Demanded, at: Call, count: usize)
+    ensures less { IsLess demanded.old demanded.new }
+    ensures there { (i : ℕ) (v : Bool) → asked_of demanded.new at.thread.0 at.depth i ≡ Some v → i < count }
 {
     if let Ok(first) = u32::try_from(count) {
-        if w.register_from(thread, depth, first).is_some() {
-            w.clear_calls(thread, depth);
+        if demanded.register_from(at, first).is_some() {
+            demanded.clear_calls(at);
         }
     }
 }
@@ -58,34 +69,34 @@ fn leave_missing(w: &mut Demanded, thread: u8, depth: u32, count: usize)
 /// Settles the extent of a thread's branch step, where the older ones are settled: it is pinned, or nothing has to be known that
 /// the extent sets, and nothing is asked any more of calls that began in it. Gives whether this is so.
 fn decide(
-    w: &mut Demanded,
-    d: &mut DecisionSet,
-    r: &ReferenceRun,
-    counts: &[Counts],
-    thread: u8,
+    demanded: &mut Demanded,
+    decisions: &mut DecisionSet,
+    walk: &Walk,
+    thread: ThreadNo,
     b: usize,
 ) -> bool
-    requires { (n : ℕ) × AreOf n d.old × (b < n) }
-    ensures size { (n : ℕ) → AreOf n d.old → AreOf n d.new }
-    ensures kept { AreWithin (taken_by d.old) (taken_by d.new) }
-    ensures left { left_by d.new ≤ left_by d.old }
-    ensures less { IsLess w.old w.new }
-    ensures pinned { result ≡ false → (taken_by d.new).pinned b ≡ true }
-    ensures owed { (e : Taken) → ((c : ACounts) → slice_get counts.now b ≡ Some c → SetsAt r.now b thread c.present w.old → e.pinned b ≡ true)
-        → ((c : ACounts) × (slice_get counts.now b ≡ Some c)) → AreWithin (taken_by d.old) e → AreWithin (taken_by d.new) e }
-    ensures passes { result ≡ true → PassesAt r.now b thread w.new }
+    requires { (n : ℕ) × AreOf n decisions.old × (b < n) }
+    ensures size { (n : ℕ) → AreOf n decisions.old → AreOf n decisions.new }
+    ensures kept { AreWithin (taken_by decisions.old) (taken_by decisions.new) }
+    ensures left { left_by decisions.new ≤ left_by decisions.old }
+    ensures less { IsLess demanded.old demanded.new }
+    ensures pinned { result ≡ false → (taken_by decisions.new).pinned b ≡ true }
+    ensures owed { (e : Taken) → ((c : ACounts) → slice_get walk.now.counts.now b ≡ Some c → SetsAt walk.now.reference.now b thread.0 c.present demanded.old → e.pinned b ≡ true)
+        → ((c : ACounts) × (slice_get walk.now.counts.now b ≡ Some c)) → AreWithin (taken_by decisions.old) e → AreWithin (taken_by decisions.new) e }
+    ensures passes { result ≡ true → PassesAt walk.now.reference.now b thread.0 demanded.new }
 {
-    if d.is_pinned(b) {
+    if decisions.is_pinned(b) {
         return false;
     }
-    let depth = r.depth(b);
-    let own = counts_at(counts, b);
-    leave_missing(w, thread, depth, own.present);
-    if sets_any(w, r, Call { thread, depth }, b, own.present) {
-        d.take(Decision::Pinned(b));
+    let depth = walk.reference.depth(b);
+    let own = counts_at(walk.counts, b);
+    let at = Call { thread, depth };
+    leave_missing(demanded, at, own.present);
+    if sets_any(demanded, walk.reference, at, b, own.present) {
+        decisions.take(Decision::Pinned(b));
         return false;
     }
-    w.clear_above(thread, depth);
+    demanded.clear_above(at);
     true
 }
 
@@ -93,36 +104,35 @@ fn decide(
 /// branch step of that.
 fn settle_open(
     alloc: Global,
-    w: &mut Demanded,
+    demanded: &mut Demanded,
     settled: &mut Vec<bool>,
-    d: &mut DecisionSet,
-    r: &ReferenceRun,
-    holders: &[u32],
-    counts: &[Counts],
-    thread: u8,
-    n: usize,
+    decisions: &mut DecisionSet,
+    walk: &Walk,
+    thread: ThreadNo,
+    number: usize,
 ) -> Result<Option<usize>, AllocError>
-    requires older { AreOlder holders.now }
-    requires size { AreOf (step_count r.now) d.old }
-    requires number { n < step_count r.now }
-    requires settled { AreSettled holders.now (taken_by d.old) settled.old.items }
-    ensures size { OnOk result (AreOf (step_count r.now) d.new) }
-    ensures left { OnOk result (left_by d.new ≤ left_by d.old) }
-    ensures settled { OnOk result (AreSettled holders.now (taken_by d.new) settled.new.items) }
-    ensures live { IfOk result (λ o. IfNone o (ArePinned holders.now (taken_by d.new) (slice_index_or holders.now n 0))) }
-    ensures behind { OnOk result ((R : Reference) (e : Taken) (m : Moment) → IsTold R r.now holders.now counts.now → slice_get R.moments n ≡ Some m → thread_in m ≡ thread
-        → Walks R e (suc n) w.old (taken_by d.old) → Walks R e (suc n) w.new (taken_by d.new)) }
-    ensures earlier { IfOk result (λ o. IfSome o (λ b. b < n)) }
+    requires older { AreOlder walk.now.holders.now }
+    requires size { AreOf (step_count walk.now.reference.now) decisions.old }
+    requires number { number < step_count walk.now.reference.now }
+    requires settled { AreSettled walk.now.holders.now (taken_by decisions.old) settled.old.items }
+    ensures size { OnOk result (AreOf (step_count walk.now.reference.now) decisions.new) }
+    ensures left { OnOk result (left_by decisions.new ≤ left_by decisions.old) }
+    ensures settled { OnOk result (AreSettled walk.now.holders.now (taken_by decisions.new) settled.new.items) }
+    ensures live { IfOk result (λ o. IfNone o (ArePinned walk.now.holders.now (taken_by decisions.new) (slice_index_or walk.now.holders.now number 0))) }
+    ensures behind { OnOk result ((R : Reference) (e : Taken) (m : Moment) → IsTold R walk.now.reference.now walk.now.holders.now walk.now.counts.now
+        → slice_get R.moments number ≡ Some m → thread_in m ≡ thread.0
+        → Walks R e (suc number) demanded.old (taken_by decisions.old) → Walks R e (suc number) demanded.new (taken_by decisions.new)) }
+    ensures earlier { IfOk result (λ o. IfSome o (λ b. b < number)) }
     ensures passed { IfOk result (λ o. IfSome o (λ b. (R : Reference) (e : Taken) (m : Moment)
-        → IsTold R r.now holders.now counts.now → slice_get R.moments n ≡ Some m → thread_in m ≡ thread
-        → Walks R e (suc n) w.old (taken_by d.old) → Walks R e (suc b) w.new (taken_by d.new))) }
+        → IsTold R walk.now.reference.now walk.now.holders.now walk.now.counts.now → slice_get R.moments number ≡ Some m → thread_in m ≡ thread.0
+        → Walks R e (suc number) demanded.old (taken_by decisions.old) → Walks R e (suc b) demanded.new (taken_by decisions.new))) }
     ensures words { IfOk result (λ o. IfSome o (λ b. (R : Reference) (e : Taken) (m : Moment)
-        → IsTold R r.now holders.now counts.now → slice_get R.moments n ≡ Some m → thread_in m ≡ thread
-        → (words : List Bool) → AreWordsMet (known_at R e (suc n)) words → AreWordsMet (known_at R e (suc b)) words)) }
+        → IsTold R walk.now.reference.now walk.now.holders.now walk.now.counts.now → slice_get R.moments number ≡ Some m → thread_in m ≡ thread.0
+        → (words : List Bool) → AreWordsMet (known_at R e (suc number)) words → AreWordsMet (known_at R e (suc b)) words)) }
 {
-    let mut open = unsettled(alloc, holders, settled.as_slice(), n)?;
+    let mut open = unsettled(alloc, walk.holders, settled.as_slice(), number)?;
     while let Some(b) = open.pop() {
-        if decide(w, d, r, counts, thread, b) {
+        if decide(demanded, decisions, walk, thread, b) {
             return Ok(Some(b));
         }
         set_mark(settled, b);
@@ -130,45 +140,62 @@ fn settle_open(
     Ok(None)
 }
 
-/// Goes back over step n, or over the whole of an extent in which it stands; gives how many steps are left. The word of a
+/// Goes back over a step, or over the whole of an extent in which it stands; gives how many steps are left. The word of a
 /// thread, its argument and then its exit value, has to be known where a start or a join hands on what has to be known.
 fn back(
     alloc: Global,
-    w: &mut Demanded,
+    demanded: &mut Demanded,
     words: &mut Vec<bool>,
     settled: &mut Vec<bool>,
-    d: &mut DecisionSet,
-    p: &Program,
-    t: &Trace,
-    r: &ReferenceRun,
-    holders: &[u32],
-    counts: &[Counts],
-    n: usize,
+    decisions: &mut DecisionSet,
+    walk: &Walk,
+    number: usize,
 ) -> Result<usize, AllocError>
-    requires edges { EdgesStand p.now r.now }
-    requires steps { AreSteps p.now t.now.steps }
-    requires count { step_count r.now ≡ length t.now.steps }
-    requires older { AreOlder holders.now }
-    requires number { n < length t.now.steps }
-    requires size { AreOf (length t.now.steps) d.old }
-    requires settled { AreSettled holders.now (taken_by d.old) settled.old.items }
-    ensures size { OnOk result (AreOf (length t.now.steps) d.new) }
-    ensures left { OnOk result (left_by d.new ≤ left_by d.old) }
-    ensures settled { OnOk result (AreSettled holders.now (taken_by d.new) settled.new.items) }
-    ensures fewer { IfOk result (λ k. k ≤ n) }
-    ensures walks { IfOk result (λ k. (R : Reference) (e : Taken) (m : Moment) → IsTold R r.now holders.now counts.now → R.program ≡ p.now → IsClosed R e → slice_get R.moments n ≡ Some m
-        → slice_get t.now.steps n ≡ Some m.did.did → AreWordsMet (known_at R e (suc n)) words.old.items → Walks R e (suc n) w.old (taken_by d.old)
-        → Walks R e k w.new (taken_by d.new) × AreWordsMet (known_at R e k) words.new.items) }
+    requires edges { EdgesStand walk.now.program.now walk.now.reference.now }
+    requires steps { AreSteps walk.now.program.now walk.now.trace.now.steps }
+    requires count { step_count walk.now.reference.now ≡ length walk.now.trace.now.steps }
+    requires older { AreOlder walk.now.holders.now }
+    requires number { number < length walk.now.trace.now.steps }
+    requires size { AreOf (length walk.now.trace.now.steps) decisions.old }
+    requires settled { AreSettled walk.now.holders.now (taken_by decisions.old) settled.old.items }
+    ensures size { OnOk result (AreOf (length walk.now.trace.now.steps) decisions.new) }
+    ensures left { OnOk result (left_by decisions.new ≤ left_by decisions.old) }
+    ensures settled { OnOk result (AreSettled walk.now.holders.now (taken_by decisions.new) settled.new.items) }
+    ensures fewer { IfOk result (λ k. k ≤ number) }
+    ensures walks { IfOk result (λ k. (R : Reference) (e : Taken) (m : Moment) → IsTold R walk.now.reference.now walk.now.holders.now walk.now.counts.now
+        → R.program ≡ walk.now.program.now → IsClosed R e → slice_get R.moments number ≡ Some m
+        → slice_get walk.now.trace.now.steps number ≡ Some m.did.did → AreWordsMet (known_at R e (suc number)) words.old.items
+        → Walks R e (suc number) demanded.old (taken_by decisions.old)
+        → Walks R e k demanded.new (taken_by decisions.new) × AreWordsMet (known_at R e k) words.new.items) }
 {
-    let step = t.step(n);
-    let passed = settle_open(alloc, w, settled, d, r, holders, counts, step.thread.0, n)?;
+    let step = walk.trace.step(number);
+    let passed = settle_open(
+        alloc,
+        demanded,
+        settled,
+        decisions,
+        walk,
+        step.thread,
+        number,
+    )?;
     match passed {
         Some(b) => Ok(b + 1),
         None => {
-            let x = p.instr(step.instr);
-            let count = counts_at(counts, n);
-            back_one(alloc, w, words, d, p, x, &step, r, count, n)?;
-            Ok(n)
+            let instr = walk.program.instr(step.instr);
+            let count = counts_at(walk.counts, number);
+            back_one(
+                alloc,
+                demanded,
+                words,
+                decisions,
+                walk.program,
+                instr,
+                &step,
+                walk.reference,
+                count,
+                number,
+            )?;
+            Ok(number)
         }
     }
 }
@@ -179,41 +206,30 @@ fn back(
 /// # Errors
 ///
 /// Where no memory is left.
-pub fn widen(
-    alloc: Global,
-    p: &Program,
-    t: &Trace,
-    r: &ReferenceRun,
-    holders: &[u32],
-    counts: &[Counts],
-    d: &mut DecisionSet,
-) -> Result<(), AllocError>
-    requires edges { EdgesStand p.now r.now }
-    requires steps { AreSteps p.now t.now.steps }
-    requires count { step_count r.now ≡ length t.now.steps }
-    requires older { AreOlder holders.now }
-    requires size { AreOf (length t.now.steps) d.old }
-    ensures size { OnOk result (AreOf (length t.now.steps) d.new) }
-    ensures left { OnOk result (left_by d.new ≤ left_by d.old) }
-    ensures widens { OnOk result (Widens p.now r.now holders.now counts.now t.now.steps (taken_by d.old) (taken_by d.new)) }
+pub fn widen(alloc: Global, walk: &Walk, decisions: &mut DecisionSet) -> Result<(), AllocError>
+    requires edges { EdgesStand walk.now.program.now walk.now.reference.now }
+    requires steps { AreSteps walk.now.program.now walk.now.trace.now.steps }
+    requires count { step_count walk.now.reference.now ≡ length walk.now.trace.now.steps }
+    requires older { AreOlder walk.now.holders.now }
+    requires size { AreOf (length walk.now.trace.now.steps) decisions.old }
+    ensures size { OnOk result (AreOf (length walk.now.trace.now.steps) decisions.new) }
+    ensures left { OnOk result (left_by decisions.new ≤ left_by decisions.old) }
+    ensures widens { OnOk result (Widens walk.now.program.now walk.now.reference.now walk.now.holders.now walk.now.counts.now walk.now.trace.now.steps
+        (taken_by decisions.old) (taken_by decisions.new)) }
 {
-    let mut w = Demanded::new(alloc);
+    let mut demanded = Demanded::new(alloc);
     let mut words = no_words(alloc)?;
-    let mut settled = no_marks(alloc, t.len())?;
-    let mut n = t.len();
-    while n > 0 {
-        n = back(
+    let mut settled = no_marks(alloc, walk.trace.len())?;
+    let mut left = walk.trace.len();
+    while left > 0 {
+        left = back(
             alloc,
-            &mut w,
+            &mut demanded,
             &mut words,
             &mut settled,
-            d,
-            p,
-            t,
-            r,
-            holders,
-            counts,
-            n - 1,
+            decisions,
+            walk,
+            left - 1,
         )?;
     }
     Ok(())

@@ -13,14 +13,14 @@ ghost use Rattle.pg_run_trace.specs.declared.step.StepKind.TheVariants as kinds;
 ghost use Rattle.pg_slice_rules.specs.Closed.{AreWithin};
 ghost use Rattle.pg_slice_rules.specs.Known.{Reference, SymbolicState, Taken};
 ghost use Rattle.pg_slice_rules.specs.Moments.{Moment};
-ghost use Rattle.pg_slice_decisions.specs.Steps.{AreOf, left_by, taken_by};
-ghost use Rattle.pg_law_demands.specs.Along.{known_at};
-ghost use Rattle.pg_law_demands.specs.Back.{back_exit, of_operand, of_optional, word_demand};
-ghost use Rattle.pg_law_demands.specs.Cells.{IsMet};
+ghost use Rattle.pg_slice_back.specs.pg_slice_decisions.Steps.{AreOf, left_by, taken_by};
+ghost use Rattle.pg_slice_back.specs.pg_law_demands.Along.{known_at};
+ghost use Rattle.pg_slice_back.specs.pg_law_demands.Back.{back_exit, of_operand, of_optional, word_demand};
+ghost use Rattle.pg_slice_back.specs.pg_law_demands.Cells.{IsMet};
 ghost use Rattle.pg_slice_demands.specs.Asked.{asked_of};
-ghost use Rattle.pg_slice_replay.specs.declared.run.ReferenceRun.{ReferenceRun as AReferenceRun};
-ghost use Rattle.pg_slice_replay.specs.Kept.{step_count};
-ghost use Rattle.pg_slice_passes.specs.Given.{EdgesStand};
+ghost use Rattle.pg_slice_back.specs.pg_slice_replay.declared.run.ReferenceRun.{ReferenceRun as AReferenceRun};
+ghost use Rattle.pg_slice_back.specs.pg_slice_replay.Kept.{step_count};
+ghost use Rattle.pg_slice_back.specs.pg_slice_passes.Given.{EdgesStand};
 ghost use Rattle.pg_slice_back.specs.declared.registers.Counts.{Counts as ACounts};
 ghost use Rattle.pg_slice_back.specs.Leaves.{IsLess};
 ghost use Rattle.pg_slice_back.specs.Met.{AreMet};
@@ -28,12 +28,12 @@ ghost use Rattle.pg_slice_back.specs.Steps.{IsCallOf, IsLiveStep};
 ghost use Rattle.pg_slice_walk.specs.Words.{AreWordsMet, AsksArgument, WritesAsked};
 
 use crate::marks::{mark_at, no_marks, set_mark};
-use pg_ir::{Instr, Op, Program, Value};
+use pg_ir::{Instr, Op, Program, ThreadNo, Value};
 use pg_run_trace::{Access, Event, Step, StepKind, TurnKind, Write};
-use pg_slice_back::{Call, Counts, back_live, call_of, put_argument, put_optional};
-use pg_slice_decisions::DecisionSet;
-use pg_slice_demands::Demanded;
-use pg_slice_replay::ReferenceRun;
+use pg_slice_back::pg_slice_decisions::DecisionSet;
+use pg_slice_back::pg_slice_replay::ReferenceRun;
+use pg_slice_back::{Counts, back_live, call_of, put_argument, put_optional};
+use pg_slice_demands::{Call, Demanded};
 use std::alloc::{AllocError, Global};
 
 /// How many threads a step can name.
@@ -48,8 +48,8 @@ pub(crate) fn no_words(alloc: Global) -> Result<Vec<bool>, AllocError>
 }
 
 /// Whether a byte of a write has to be known.
-fn is_asked(w: &Demanded, write: Write) -> bool
-    ensures { result ≡ true → WritesAsked w.now write }
+fn is_asked(demanded: &Demanded, write: Write) -> bool
+    ensures { result ≡ true → WritesAsked demanded.now write }
 {
     let own = Access {
         pointer: write.pointer,
@@ -59,18 +59,18 @@ fn is_asked(w: &Demanded, write: Write) -> bool
         event: true,
     };
     let from = own.start() as u64;
-    let found = w.byte_in(from, from + 8);
+    let found = demanded.byte_in(from, from + 8);
     found.is_some()
 }
 
 /// The thread whose word a join writes to bytes of which one has to be known, if it does so.
-fn joined(w: &Demanded, e: &Event) -> Option<usize>
-    ensures { IfSome result (λ u. (x : AWrite) × (e.now.write ≡ Some x) × WritesAsked w.now x × (u ≡ e.now.object)) }
+fn joined(demanded: &Demanded, event: &Event) -> Option<usize>
+    ensures { IfSome result (λ u. (x : AWrite) × (event.now.write ≡ Some x) × WritesAsked demanded.now x × (u ≡ event.now.object)) }
 {
-    match e.write {
+    match event.write {
         Some(write) => {
-            if is_asked(w, write) {
-                Some(e.object as usize)
+            if is_asked(demanded, write) {
+                Some(event.object as usize)
             } else {
                 None
             }
@@ -81,46 +81,58 @@ fn joined(w: &Demanded, e: &Event) -> Option<usize>
 
 /// How many parameters a function has, none where there is no such function.
 #[tactic(auto, unfolding(pg_ir::specs::Program::parameter_count), using(pg_slice_registers::proofs::MissingFunctions::no_parameters))]
-fn parameter_count(p: &Program, f: u32) -> u32
-    ensures { result ≡ parameter_count p.now f }
+fn parameter_count(program: &Program, f: u32) -> u32
+    ensures { result ≡ parameter_count program.now f }
 {
-    if f < p.function_count() {
-        p.function(f).params
+    if f < program.function_count() {
+        program.function(f).params
     } else {
         0
     }
 }
 
 /// Nothing is asked any more of the first register of a call; gives whether all of it was.
-fn leave_first(w: &mut Demanded, at: Call) -> bool
-    ensures less { IsLess w.old w.new }
-    ensures asked { result ≡ true → asked_of w.old at.thread at.depth 0 ≡ Some true }
+fn leave_first(demanded: &mut Demanded, at: Call) -> bool
+    ensures less { IsLess demanded.old demanded.new }
+    ensures asked { result ≡ true → asked_of demanded.old at.thread.0 at.depth 0 ≡ Some true }
 {
-    match w.take_register(at.thread, at.depth, 0) {
+    match demanded.take_register(at, 0) {
         Some(whole) => whole,
         None => false,
     }
 }
 
 /// Whether a start gives its thread's word to a parameter that has to be known. Nothing is asked of this any more then.
-fn is_argument_asked(w: &mut Demanded, p: &Program, function: u32, at: Call, count: usize) -> bool
-    ensures less { IsLess w.old w.new }
-    ensures asked { result ≡ true → AsksArgument p.now w.old function at count }
+fn is_argument_asked(
+    demanded: &mut Demanded,
+    program: &Program,
+    function: u32,
+    at: Call,
+    count: usize,
+) -> bool
+    ensures less { IsLess demanded.old demanded.new }
+    ensures asked { result ≡ true → AsksArgument program.now demanded.old function at count }
 {
-    if count == 0 || parameter_count(p, function) == 0 {
+    if count == 0 || parameter_count(program, function) == 0 {
         return false;
     }
-    leave_first(w, at)
+    leave_first(demanded, at)
 }
 
 /// The thread whose word a start gives to a parameter that has to be known, if it does so: its own. Nothing is asked of this any
 /// more then.
-fn started(w: &mut Demanded, p: &Program, function: u32, at: Call, count: usize) -> Option<usize>
-    ensures less { IsLess w.old w.new }
-    ensures asked { IfSome result (λ u. (u ≡ at.thread) × AsksArgument p.now w.old function at count) }
+fn started(
+    demanded: &mut Demanded,
+    program: &Program,
+    function: u32,
+    at: Call,
+    count: usize,
+) -> Option<usize>
+    ensures less { IsLess demanded.old demanded.new }
+    ensures asked { IfSome result (λ u. (u ≡ at.thread.0) × AsksArgument program.now demanded.old function at count) }
 {
-    if is_argument_asked(w, p, function, at, count) {
-        Some(at.thread as usize)
+    if is_argument_asked(demanded, program, function, at, count) {
+        Some(at.thread.0 as usize)
     } else {
         None
     }
@@ -182,43 +194,45 @@ fn event_in(step: &Step) -> Option<Event>
 /// The thread whose word has to be known before an event, for what has to be known behind it, if there is one. Of a parameter that a
 /// start gives nothing is asked any more.
 fn asked_by(
-    w: &mut Demanded,
-    p: &Program,
-    r: &ReferenceRun,
+    demanded: &mut Demanded,
+    program: &Program,
+    reference: &ReferenceRun,
     at: Call,
     count: usize,
-    e: &Event,
-    n: usize,
+    event: &Event,
+    number: usize,
 ) -> Option<usize>
-    ensures less { IsLess w.old w.new }
-    ensures asked { IfSome result (λ u. (R : Reference) (d : Taken) (x : AnInstr) (step : AStep) (counts : ACounts) (m : Moment) → IsLiveStep R d p.now r.now x step counts n m → IsCallOf m at
-        → step.kind ≡ kinds.Event e.now → counts.present ≡ count → AreMet (known_at R d (suc n)) w.old → IsMet (known_at R d n) (word_demand u true)) }
+    ensures less { IsLess demanded.old demanded.new }
+    ensures asked { IfSome result (λ u. (R : Reference) (d : Taken) (x : AnInstr) (step : AStep) (counts : ACounts) (m : Moment)
+        → IsLiveStep R d program.now reference.now x step counts number m → IsCallOf m at
+        → step.kind ≡ kinds.Event event.now → counts.present ≡ count → AreMet (known_at R d (suc number)) demanded.old → IsMet (known_at R d number) (word_demand u true)) }
 {
-    if is_join(e.kind) {
-        return joined(w, e);
+    if is_join(event.kind) {
+        return joined(demanded, event);
     }
-    if is_start(e.kind) {
-        return started(w, p, r.function(n), at, count);
+    if is_start(event.kind) {
+        return started(demanded, program, reference.function(number), at, count);
     }
     None
 }
 
 /// The thread whose word has to be known before a step, for what has to be known behind it, if there is one.
 fn asked_word(
-    w: &mut Demanded,
-    p: &Program,
-    r: &ReferenceRun,
+    demanded: &mut Demanded,
+    program: &Program,
+    reference: &ReferenceRun,
     at: Call,
     count: usize,
     step: &Step,
-    n: usize,
+    number: usize,
 ) -> Option<usize>
-    ensures less { IsLess w.old w.new }
-    ensures asked { IfSome result (λ u. (R : Reference) (d : Taken) (x : AnInstr) (counts : ACounts) (m : Moment) → IsLiveStep R d p.now r.now x step.now counts n m → IsCallOf m at
-        → counts.present ≡ count → AreMet (known_at R d (suc n)) w.old → IsMet (known_at R d n) (word_demand u true)) }
+    ensures less { IsLess demanded.old demanded.new }
+    ensures asked { IfSome result (λ u. (R : Reference) (d : Taken) (x : AnInstr) (counts : ACounts) (m : Moment)
+        → IsLiveStep R d program.now reference.now x step.now counts number m → IsCallOf m at
+        → counts.present ≡ count → AreMet (known_at R d (suc number)) demanded.old → IsMet (known_at R d number) (word_demand u true)) }
 {
     match event_in(step) {
-        Some(e) => asked_by(w, p, r, at, count, &e, n),
+        Some(e) => asked_by(demanded, program, reference, at, count, &e, number),
         None => None,
     }
 }
@@ -243,13 +257,13 @@ fn first_of(values: &[Value]) -> Option<Value>
 }
 
 /// What a thread's exit hands on, if it is an operand: main's `pthread_exit` hands on 0.
-fn exit_operand(op: &Op, thread: u8) -> Option<Value>
-    ensures { (s : SymbolicState) (k : ℕ) → AllByRecursion (IsMet s) (back_exit thread k true op.now).demands → AllByRecursion (IsMet s) (of_optional thread k true result) }
+fn exit_operand(op: &Op, thread: ThreadNo) -> Option<Value>
+    ensures { (s : SymbolicState) (k : ℕ) → AllByRecursion (IsMet s) (back_exit thread.0 k true op.now).demands → AllByRecursion (IsMet s) (of_optional thread.0 k true result) }
 {
     match op {
         Op::Ret { value } => *value,
         Op::CallLibrary { args, .. } => {
-            if thread == 0 {
+            if thread.0 == 0 {
                 None
             } else {
                 first_of(args.as_slice())
@@ -260,13 +274,19 @@ fn exit_operand(op: &Op, thread: u8) -> Option<Value>
 }
 
 /// Back over an exit: where its thread's word has to be known, what it hands on has to be.
-fn leave_exit(w: &mut Demanded, words: &mut Vec<bool>, at: Call, op: &Op) -> Result<(), AllocError>
-    ensures rest { (u : ℕ) → slice_index_or words.new.items u false ≡ true → (slice_index_or words.old.items u false ≡ true) × (u ≡ at.thread → ⊥) }
-    ensures met { OnOk result ((s : SymbolicState) → (slice_index_or words.old.items at.thread false ≡ true → AllByRecursion (IsMet s) (back_exit at.thread at.depth true op.now).demands)
-        → AreMet s w.old → AreMet s w.new) }
+fn leave_exit(
+    demanded: &mut Demanded,
+    words: &mut Vec<bool>,
+    at: Call,
+    op: &Op,
+) -> Result<(), AllocError>
+    ensures rest { (u : ℕ) → slice_index_or words.new.items u false ≡ true → (slice_index_or words.old.items u false ≡ true) × (u ≡ at.thread.0 → ⊥) }
+    ensures met { OnOk result ((s : SymbolicState) → (slice_index_or words.old.items at.thread.0 false ≡ true
+        → AllByRecursion (IsMet s) (back_exit at.thread.0 at.depth true op.now).demands)
+        → AreMet s demanded.old → AreMet s demanded.new) }
 {
-    if leave_word(words, at.thread as usize) {
-        return put_optional(w, at, exit_operand(op, at.thread), true);
+    if leave_word(words, at.thread.0 as usize) {
+        return put_optional(demanded, at, exit_operand(op, at.thread), true);
     }
     Ok(())
 }
@@ -274,18 +294,19 @@ fn leave_exit(w: &mut Demanded, words: &mut Vec<bool>, at: Call, op: &Op) -> Res
 /// Back over a create, before which there are so many threads: where the word of the thread that it makes has to be known, the argument
 /// has to be.
 fn leave_created(
-    w: &mut Demanded,
+    demanded: &mut Demanded,
     words: &mut Vec<bool>,
     at: Call,
     op: &Op,
     threads: usize,
 ) -> Result<(), AllocError>
     ensures rest { (u : ℕ) → slice_index_or words.new.items u false ≡ true → (slice_index_or words.old.items u false ≡ true) × (u ≡ threads → ⊥) }
-    ensures met { OnOk result ((s : SymbolicState) → (slice_index_or words.old.items threads false ≡ true → AllByRecursion (IsMet s) (of_operand at.thread at.depth true op.now 3))
-        → AreMet s w.old → AreMet s w.new) }
+    ensures met { OnOk result ((s : SymbolicState) → (slice_index_or words.old.items threads false ≡ true
+        → AllByRecursion (IsMet s) (of_operand at.thread.0 at.depth true op.now 3))
+        → AreMet s demanded.old → AreMet s demanded.new) }
 {
     if leave_word(words, threads) {
-        return put_argument(w, at, op, 3, true);
+        return put_argument(demanded, at, op, 3, true);
     }
     Ok(())
 }
@@ -293,7 +314,7 @@ fn leave_created(
 /// Back over an event, before which there are so many threads: a word that it sets needn't be known any more, and what it is set to has
 /// to be.
 fn leave_event(
-    w: &mut Demanded,
+    demanded: &mut Demanded,
     words: &mut Vec<bool>,
     at: Call,
     op: &Op,
@@ -302,14 +323,15 @@ fn leave_event(
 ) -> Result<(), AllocError>
     ensures { OnOk result ((R : Reference) (e : Taken) (p : NumberedProgram) (r : AReferenceRun) (x : AnInstr) (step : AStep) (counts : ACounts) (v : AnEvent) (n : ℕ) (m : Moment)
         → IsLiveStep R e p r x step counts n m → IsCallOf m at → x.op ≡ op.now → step.kind ≡ kinds.Event v → v.kind ≡ kind → counts.threads ≡ threads
-        → AreWordsMet (known_at R e (suc n)) words.old.items → AreMet (known_at R e n) w.old → AreMet (known_at R e n) w.new × AreWordsMet (known_at R e n) words.new.items) }
+        → AreWordsMet (known_at R e (suc n)) words.old.items → AreMet (known_at R e n) demanded.old
+        → AreMet (known_at R e n) demanded.new × AreWordsMet (known_at R e n) words.new.items) }
 {
     if is_exit(kind) {
-        leave_exit(w, words, at, op)?;
+        leave_exit(demanded, words, at, op)?;
         return Ok(());
     }
     if is_create(kind) {
-        leave_created(w, words, at, op, threads)?;
+        leave_created(demanded, words, at, op, threads)?;
         return Ok(());
     }
     Ok(())
@@ -318,7 +340,7 @@ fn leave_event(
 /// Back over a step, before which there are so many threads: a word that it sets needn't be known any more, and what it is set to has
 /// to be.
 fn leave_words(
-    w: &mut Demanded,
+    demanded: &mut Demanded,
     words: &mut Vec<bool>,
     at: Call,
     op: &Op,
@@ -327,10 +349,11 @@ fn leave_words(
 ) -> Result<(), AllocError>
     ensures { OnOk result ((R : Reference) (e : Taken) (p : NumberedProgram) (r : AReferenceRun) (x : AnInstr) (counts : ACounts) (n : ℕ) (m : Moment)
         → IsLiveStep R e p r x step.now counts n m → IsCallOf m at → x.op ≡ op.now → counts.threads ≡ threads
-        → AreWordsMet (known_at R e (suc n)) words.old.items → AreMet (known_at R e n) w.old → AreMet (known_at R e n) w.new × AreWordsMet (known_at R e n) words.new.items) }
+        → AreWordsMet (known_at R e (suc n)) words.old.items → AreMet (known_at R e n) demanded.old
+        → AreMet (known_at R e n) demanded.new × AreWordsMet (known_at R e n) words.new.items) }
 {
     match event_in(step) {
-        Some(e) => leave_event(w, words, at, op, e.kind, threads),
+        Some(e) => leave_event(demanded, words, at, op, e.kind, threads),
         None => Ok(()),
     }
 }
@@ -352,30 +375,41 @@ fn ask_word(words: &mut Vec<bool>, asked: Option<usize>)
 /// Where no memory is left. Nothing is said of what has to be known then.
 pub(crate) fn back_one(
     alloc: Global,
-    w: &mut Demanded,
+    demanded: &mut Demanded,
     words: &mut Vec<bool>,
-    d: &mut DecisionSet,
-    p: &Program,
-    x: &Instr,
+    decisions: &mut DecisionSet,
+    program: &Program,
+    instr: &Instr,
     step: &Step,
-    r: &ReferenceRun,
+    reference: &ReferenceRun,
     counts: Counts,
-    n: usize,
+    number: usize,
 ) -> Result<(), AllocError>
-    requires number { n < step_count r.now }
-    requires edges { EdgesStand p.now r.now }
-    requires size { (k : ℕ) × AreOf k d.old × (n < k) }
-    ensures size { (k : ℕ) → AreOf k d.old → AreOf k d.new }
-    ensures kept { AreWithin (taken_by d.old) (taken_by d.new) }
-    ensures less { left_by d.new ≤ left_by d.old }
-    ensures back { OnOk result ((R : Reference) (e : Taken) (m : Moment) → IsLiveStep R e p.now r.now x.now step.now counts n m → AreWithin (taken_by d.old) e
-        → AreWordsMet (known_at R e (suc n)) words.old.items → AreMet (known_at R e (suc n)) w.old
-        → AreMet (known_at R e n) w.new × AreWordsMet (known_at R e n) words.new.items × AreWithin (taken_by d.new) e) }
+    requires number { number < step_count reference.now }
+    requires edges { EdgesStand program.now reference.now }
+    requires size { (k : ℕ) × AreOf k decisions.old × (number < k) }
+    ensures size { (k : ℕ) → AreOf k decisions.old → AreOf k decisions.new }
+    ensures kept { AreWithin (taken_by decisions.old) (taken_by decisions.new) }
+    ensures less { left_by decisions.new ≤ left_by decisions.old }
+    ensures back { OnOk result ((R : Reference) (e : Taken) (m : Moment) → IsLiveStep R e program.now reference.now instr.now step.now counts number m
+        → AreWithin (taken_by decisions.old) e
+        → AreWordsMet (known_at R e (suc number)) words.old.items → AreMet (known_at R e (suc number)) demanded.old
+        → AreMet (known_at R e number) demanded.new × AreWordsMet (known_at R e number) words.new.items × AreWithin (taken_by decisions.new) e) }
 {
-    let at = call_of(r, step, n);
-    let asked = asked_word(w, p, r, at, counts.present, step, n);
-    back_live(alloc, w, d, p, x, step, r, counts, n)?;
-    leave_words(w, words, at, &x.op, step, counts.threads)?;
+    let at = call_of(reference, step, number);
+    let asked = asked_word(
+        demanded,
+        program,
+        reference,
+        at,
+        counts.present,
+        step,
+        number,
+    );
+    back_live(
+        alloc, demanded, decisions, program, instr, step, reference, counts, number,
+    )?;
+    leave_words(demanded, words, at, &instr.op, step, counts.threads)?;
     ask_word(words, asked);
     Ok(())
 }

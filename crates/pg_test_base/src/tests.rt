@@ -1,5 +1,6 @@
 //! Tests of the lowest crates.
 
+mod book_words;
 mod cached;
 mod numbers;
 mod shelves;

@@ -1,9 +1,9 @@
 //! A line of `sessions.txt` has the words of a command line, the files that stand one behind the other as the program text `x`
 //! of the shelf, and the bytes of the source, with `/` for a line feed. For each it prints the exit status and what was
-//! written, and says so where reads of one byte change that. Then it serves lines at the limit of a line, each proper prefix of
-//! a program, and each prefix of some lines, from a source that ends there and from one that fails there. `pg_test_session`
-//! has longer runs and inputs.
-use crate::running::{SHORTENED, joined, outcome, print_bytes};
+//! written, and says so where reads of one byte or another crew of workers change that. Then it serves lines at the limit of a line,
+//! each proper prefix of a program, and each prefix of some lines, from a source that ends there and from one that fails there.
+//! `pg_test_session` has longer runs and inputs.
+use crate::running::{SHORTENED, Workers, joined, outcome, print_bytes};
 use anyhow::Result;
 use pg_commands::Status;
 use pg_io::{MemoryShelf, MemorySource};
@@ -44,11 +44,32 @@ fn answer<R: Threads + Wait + Sync + Print + Files + AllocGlobal>(
     line: &str,
     text: &[u8],
     src: MemorySource,
+    workers: Workers,
 ) -> Result<(Status, Vec<u8>), AllocError> {
-    outcome(rt, line, shelf_of(rt.alloc(), text)?, src)
+    outcome(rt, line, shelf_of(rt.alloc(), text)?, src, workers)
 }
 
-/// Runs a command line, and prints what comes of it, under a title. Says so where reads of one byte give something else.
+/// Whether reads of one byte, or another crew of workers, give anything else than this.
+fn has_other_answer<R: Threads + Wait + Sync + Print + Files + AllocGlobal>(
+    rt: &R,
+    line: &str,
+    text: &[u8],
+    input: &[u8],
+    status: Status,
+    written: &[u8],
+) -> Result<bool, AllocError> {
+    for workers in [Workers::OneByOne, Workers::Together, Workers::ByLength] {
+        let src = slow_source(rt.alloc(), input, &[])?;
+        let (other, others) = answer(rt, line, text, src, workers)?;
+        if other != status || others.as_slice() != written {
+            return Ok(true);
+        }
+    }
+    Ok(false)
+}
+
+/// Runs a command line, and prints what comes of it, under a title. Says so where reads of one byte, or another crew of workers, give
+/// something else.
 fn print_outcome<R: Threads + Wait + Sync + Print + Files + AllocGlobal>(
     rt: &R,
     title: &str,
@@ -57,14 +78,12 @@ fn print_outcome<R: Threads + Wait + Sync + Print + Files + AllocGlobal>(
     input: &[u8],
 ) -> Result<()> {
     let src = source_of(rt.alloc(), input)?;
-    let (status, written) = answer(rt, line, text, src)?;
+    let (status, written) = answer(rt, line, text, src, Workers::ByLength)?;
     let code = status.code();
     println!(rt; "{title}: {code}")?;
     print_bytes(rt, written.as_slice())?;
-    let src = slow_source(rt.alloc(), input, &[])?;
-    let (other, others) = answer(rt, line, text, src)?;
-    if status != other || written.as_slice() != others.as_slice() {
-        println!(rt; "reads of one byte give something else")?;
+    if has_other_answer(rt, line, text, input, status, written.as_slice())? {
+        println!(rt; "reads of one byte or another crew give something else")?;
     }
     Ok(())
 }
@@ -92,7 +111,7 @@ fn has_other_front<R: Threads + Wait + Sync + Print + Files + AllocGlobal>(
 ) -> Result<bool, AllocError> {
     for len in 0..text.len() {
         let src = source_of(rt.alloc(), b"\n")?;
-        let (status, _) = answer(rt, "serve x", &text[..len], src)?;
+        let (status, _) = answer(rt, "serve x", &text[..len], src, Workers::ByLength)?;
         if status != Status::Done && status != Status::ProgramRefused {
             return Ok(true);
         }
@@ -113,6 +132,7 @@ fn served<R: Threads + Wait + Sync + Print + Files + AllocGlobal>(
         "serve x",
         text,
         slow_source(rt.alloc(), lines, failing)?,
+        Workers::ByLength,
     )
 }
 

@@ -2,7 +2,7 @@
 //! program text, it prints the exit status and what was written. Then it runs `once` on each line of `checks.txt`, a text that
 //! the checks refuse or nearly refuse, and prints what was written, and the text. `data/checks.py` made the output that is
 //! wanted of these.
-use crate::running::{SHORTENED, joined, outcome, print_bytes};
+use crate::running::{SHORTENED, Workers, joined, outcome, print_bytes};
 use anyhow::Result;
 use pg_commands::Status;
 use pg_io::{MemoryShelf, MemorySource};
@@ -27,7 +27,7 @@ fn answer<R: Threads + Wait + Sync + Print + Files + AllocGlobal>(
     let alloc = rt.alloc();
     let src = MemorySource::new(text, PIECE, Vec::new(alloc));
     let shelf = MemoryShelf::new(alloc, Vec::new(alloc), Vec::new(alloc));
-    outcome(rt, line, shelf, src)
+    outcome(rt, line, shelf, src, Workers::ByLength)
 }
 
 /// Runs a command line on a text, and prints what comes of it.

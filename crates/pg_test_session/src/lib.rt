@@ -1,8 +1,6 @@
-//! Tests of entries, of the texts of a session, of sessions and trials over runs that are made up, and of the top call.
+//! Tests of entries, of the texts of a session, and of sessions and trials over runs that are made up.
 #![tactic(auto)]
 
-#[cfg(test)]
-mod commands;
 #[cfg(test)]
 mod entries;
 #[cfg(test)]

@@ -66,6 +66,8 @@ fn turns_threads_and_granules_stand_apart(rt: HostRuntime) -> Result<(), Fail> {
     words.store::<Anything>(&mut seat, Place::whole_granule(0x3f_ffff), 10);
     assert_eq!(rt; words.turn::<Anything>(&mut seat), 2);
     assert_eq!(rt; words.peek(), 2);
+    words.clear_turn::<Anything>(&mut seat);
+    assert_eq!(rt; words.turn::<Anything>(&mut seat), 0);
     assert_eq!(rt; words.get_exit::<Anything>(&mut seat, ThreadNo(0)), 7);
     assert_eq!(rt; words.get_exit::<Anything>(&mut seat, ThreadNo(1)), 0);
     assert_eq!(rt; words.get_exit::<Anything>(&mut seat, ThreadNo(63)), 8);
@@ -89,6 +91,13 @@ fn seats_are_split_and_joined(rt: HostRuntime) -> Result<(), Fail> {
     assert_eq!(rt;
         words.load::<Anything>(&mut seat, Place::whole_granule(1)),
         5
+    );
+    let third = words.split::<Anything>(&mut seat);
+    words.join::<Anything>(&mut seat, third);
+    words.store::<Anything>(&mut seat, Place::whole_granule(1), 6);
+    assert_eq!(rt;
+        words.load::<Anything>(&mut seat, Place::whole_granule(1)),
+        6
     );
     Ok(())
 }

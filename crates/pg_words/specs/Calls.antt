@@ -2,7 +2,7 @@
 use Rattle.std.specs.Prelude.{◌≡◌, ℕ, ◌+◌, ◌/◌, ◌%◌, ◌^◌, ◌<◌}
 use mathlib.Core.Option.{none}
 use Rattle.atomic_table.specs.Table.{State, Me, Step, step, Allows}
-use Rattle.pg_num.specs.Places.{ByteRange}
+use Rattle.pg_ir.specs.pg_num.Places.{ByteRange}
 use Rattle.pg_run_memory.specs.declared.delta.Delta.{Delta}
 use Rattle.pg_run_memory.specs.declared.delta.Delta.TheVariants.{Add, Sub}
 use Rattle.pg_run_memory.specs.Bytes.{byte_of, number_of, with_bytes}

@@ -1,6 +1,6 @@
 //! How the words lie: the turn word, a word for each thread, a word for each granule of memory.
-use pg_num::layout::GRANULE_COUNT;
-use pg_num::limits::THREAD_LIMIT;
+use pg_ir::pg_num::layout::GRANULE_COUNT;
+use pg_ir::pg_num::limits::THREAD_LIMIT;
 
 /// The word of the number of turns that are done.
 pub const TURN_WORD: u32 = 0;

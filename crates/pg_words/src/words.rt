@@ -3,7 +3,7 @@
 ghost use Rattle.std.specs.Prelude.{◌≡◌, ℕ, ◌+◌, ◌-◌, ◌*◌, ◌<◌, ◌≤◌, ◌^◌, List, [], length, slice_index, IfOk};
 ghost use mathlib.Core.Option.{none};
 ghost use Rattle.atomic_table.specs.Table.{Joins, Splits, opening, step};
-ghost use Rattle.pg_num.specs.declared.limits.TheConstants.{THREAD_LIMIT};
+ghost use Rattle.pg_ir.specs.pg_num.declared.limits.TheConstants.{THREAD_LIMIT};
 ghost use Rattle.pg_words.specs.Calls.{AllowsChange, AllowsLoad, AllowsPart, AllowsStore, TellsPart, granule_word, number_at, thread_word};
 ghost use Rattle.pg_words.specs.declared.layout.TheConstants.{TURN_WORD, WORD_COUNT};
 ghost use Rattle.pg_run_memory.specs.declared.delta.Delta.TheVariants.{Add};
@@ -11,7 +11,7 @@ ghost use Rattle.pg_run_memory.specs.declared.delta.Delta.TheVariants.{Add};
 use crate::layout::{GRANULE_WORDS, THREAD_WORDS, TURN_WORD, WORD_COUNT};
 use atomic_table::{Join, Play, Seat, Split, Table, TableRule};
 use pg_ir::ThreadNo;
-use pg_num::Place;
+use pg_ir::pg_num::Place;
 use pg_run_memory::{Delta, field_delta};
 use std::alloc::{AllocError, Global};
 

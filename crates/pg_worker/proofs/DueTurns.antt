@@ -5,27 +5,27 @@ use Rattle.std.specs.List.{cons_option}
 use Rattle.std.proofs.lemmas.Bool.{and_from, and_parts, cases_lt, eq-eqb, eqb-true, eqb-false, leb-true}
 use Rattle.std.proofs.lemmas.Option.{slice_get_within}
 use Rattle.atomic_table.specs.Seated.{TableId}
-use Rattle.pg_num.specs.Places.{ByteRange, IsPlace}
-use Rattle.pg_num.specs.declared.limits.TheConstants.{GUIDED_STEP_LIMIT}
-use Rattle.pg_ir.specs.declared.ids.InstrId.{InstrId}
-use Rattle.pg_run_thread.specs.Step.{after, next}
-use Rattle.pg_run_thread.specs.Told.{id_of}
-use Rattle.pg_run_thread.specs.declared.action.Action.{Action}
-use Rattle.pg_run_thread.specs.declared.action.Action.TheVariants as actions
-use Rattle.pg_law_threads.specs.Effects.{deeds, or_old}
-use Rattle.pg_law_threads.specs.Intervals.{Timed, timed, turns_done}
-use Rattle.pg_law_runs.specs.Deeds.{Did, goes_on, is_event_at, owners_of}
-use Rattle.pg_law_course.specs.Course.{course, local_behind, next_turn, shared_in, state_at, turns_before, turns_in, turns_of}
-use Rattle.pg_law_course.specs.Plan as plans
-use Rattle.pg_law_course.specs.Plan.{guided_deeds, is_shared, turn_count}
-use Rattle.pg_law_course.specs.Prints.{number_printed, numbers_printed}
-use Rattle.pg_law_course.specs.Rests.{RestsAt, has_spent, is_trap}
-use Rattle.pg_law_course.specs.Steps.{is_shared_action}
-use Rattle.pg_law_course.proofs.CoursePlaces.{count_more}
-use Rattle.pg_law_course.proofs.CourseSteps.{turn_high}
-use Rattle.pg_law_course.proofs.OutputByTurns.{more_numbers}
-use Rattle.pg_law_course.proofs.RestingThreads.{rests_at}
-use Rattle.pg_law_course.proofs.SharedPlaces.{shared_end, turns_filter}
+use Rattle.pg_seats.specs.pg_num.Places.{ByteRange, IsPlace}
+use Rattle.pg_seats.specs.pg_num.declared.limits.TheConstants.{GUIDED_STEP_LIMIT}
+use Rattle.pg_seats.specs.pg_ir.declared.ids.InstrId.{InstrId}
+use Rattle.pg_seats.specs.pg_run_thread.Step.{after, next}
+use Rattle.pg_seats.specs.pg_run_thread.Told.{id_of}
+use Rattle.pg_seats.specs.pg_run_thread.declared.action.Action.{Action}
+use Rattle.pg_seats.specs.pg_run_thread.declared.action.Action.TheVariants as actions
+use Rattle.pg_seats.specs.pg_law_threads.Effects.{deeds, or_old}
+use Rattle.pg_seats.specs.pg_law_threads.Intervals.{Timed, timed, turns_done}
+use Rattle.pg_seats.specs.pg_law_runs.Deeds.{Did, goes_on, is_event_at, owners_of}
+use Rattle.pg_seats.specs.pg_law_course.Course.{course, local_behind, next_turn, shared_in, state_at, turns_before, turns_in, turns_of}
+use Rattle.pg_seats.specs.pg_law_course.Plan as plans
+use Rattle.pg_seats.specs.pg_law_course.Plan.{guided_deeds, is_shared, turn_count}
+use Rattle.pg_seats.specs.pg_law_course.Prints.{number_printed, numbers_printed}
+use Rattle.pg_seats.specs.pg_law_course.Rests.{RestsAt, has_spent, is_trap}
+use Rattle.pg_seats.specs.pg_law_course.Steps.{is_shared_action}
+use Rattle.pg_seats.proofs.of_pg_law_course.CoursePlaces.{count_more}
+use Rattle.pg_seats.proofs.of_pg_law_course.CourseSteps.{turn_high}
+use Rattle.pg_seats.proofs.of_pg_law_course.OutputByTurns.{more_numbers}
+use Rattle.pg_seats.proofs.of_pg_law_course.RestingThreads.{rests_at}
+use Rattle.pg_seats.proofs.of_pg_law_course.SharedPlaces.{shared_end, turns_filter}
 use Rattle.pg_seats.specs.declared.run.Run.{Run}
 use Rattle.pg_seats.specs.declared.run.Standing.{Standing}
 use Rattle.pg_seats.specs.declared.run.View.TheVariants as views

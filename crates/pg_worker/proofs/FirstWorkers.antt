@@ -3,11 +3,11 @@ use Rattle.std.proofs.Common.{◌≡◌, ℕ, ◌≤◌, [], length, true, false
 use Rattle.std.specs.Prelude.{max, vec_capacity}
 use Rattle.std.proofs.lemmas.Bool.{eq-eqb}
 use Rattle.atomic_table.specs.Seated.{TableId}
-use Rattle.pg_num.specs.declared.limits.TheConstants.{GUIDED_STEP_LIMIT}
-use Rattle.pg_run_thread.specs.LocalState.{fresh}
-use Rattle.pg_run_thread.specs.States.{IsOf}
-use Rattle.pg_law_course.specs.Course.{turns_of}
-use Rattle.pg_law_course.specs.Threads.{start_function}
+use Rattle.pg_seats.specs.pg_num.declared.limits.TheConstants.{GUIDED_STEP_LIMIT}
+use Rattle.pg_seats.specs.pg_run_thread.LocalState.{fresh}
+use Rattle.pg_seats.specs.pg_run_thread.States.{IsOf}
+use Rattle.pg_seats.specs.pg_law_course.Course.{turns_of}
+use Rattle.pg_seats.specs.pg_law_course.Threads.{start_function}
 use Rattle.pg_seats.specs.declared.run.Run.{Run}
 use Rattle.pg_seats.specs.declared.run.Standing.{Standing}
 use Rattle.pg_seats.specs.declared.run.View.{View}

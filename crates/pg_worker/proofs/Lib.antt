@@ -10,3 +10,9 @@ pub mod Segments
 mod TurnsLeft
 pub mod WorkerRests
 mod TurnKinds
+pub use Rattle.pg_seats.proofs.of_pg_law_course
+pub use Rattle.pg_seats.proofs.of_pg_law_order
+pub use Rattle.pg_seats.proofs.of_pg_law_runs
+pub use Rattle.pg_seats.proofs.of_pg_num
+pub use Rattle.pg_seats.proofs.of_pg_run
+pub use Rattle.pg_seats.proofs.of_pg_run_memory

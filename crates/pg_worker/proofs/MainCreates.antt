@@ -1,38 +1,38 @@
 -- A create makes another thread than the main one.
 use Rattle.std.proofs.Common.{◌≡◌, ℕ, ℤ, List, length, Bool, true, false, Option, Some, None, refl, sym, ◌∙◌, ap, arith}
 use Rattle.std.specs.Prelude.{slice_get}
-use Rattle.pg_num.specs.Places.{ByteRange}
-use Rattle.pg_ir.specs.declared.ids.InstrId.{InstrId}
-use Rattle.pg_ir.specs.declared.request.Request.{Request}
-use Rattle.pg_ir.specs.declared.request.Request.TheVariants as requests
-use Rattle.pg_ir.specs.Program.{NumberedProgram}
-use Rattle.pg_run_thread.specs.declared.action.Action.{Action}
-use Rattle.pg_run_thread.specs.declared.action.Action.TheVariants as actions
-use Rattle.pg_run_thread.specs.LocalState.{LocalState}
-use Rattle.pg_run_thread.specs.Step.{next}
-use Rattle.pg_run_trace.specs.declared.schedule.Schedule.{Schedule}
-use Rattle.pg_run_trace.specs.declared.step.Happening.{Happening}
-use Rattle.pg_run_trace.specs.declared.turn.Turn.{Turn}
-use Rattle.pg_run_trace.specs.declared.turn.TurnKind.{TurnKind}
-use Rattle.pg_run_trace.specs.declared.turn.TurnKind.TheVariants as kinds
-use Rattle.pg_run_trace.specs.Kinds.{kind_of}
-use Rattle.pg_run_trace.specs.Steps.{event_of}
-use Rattle.pg_run.specs.MachineStep.{happening_if, happening_of, turn_of, turn_with}
-use Rattle.pg_run.specs.State.{State, next_of}
-use Rattle.pg_run.proofs.StepsBegin.{ready_made}
-use Rattle.pg_law_effects.proofs.ToldByStep.{event_is}
-use Rattle.pg_law_effects.specs.PermittedSteps.{none_taken}
-use Rattle.pg_law_runs.specs.Cuts.{CanRun}
-use Rattle.pg_law_runs.specs.Deeds.{Did, is_event_at}
-use Rattle.pg_law_order.specs.Good.{IsGoodRun}
-use Rattle.pg_law_course.specs.Course.{before, course, state_at}
-use Rattle.pg_law_course.specs.Plan.{first_seen, guided_deeds}
-use Rattle.pg_law_course.specs.Steps.{IsStepOf, happening_by, made_by}
-use Rattle.pg_law_course.specs.Threads.{is_create}
-use Rattle.pg_law_course.proofs.CoursePlaces.{Place, place}
-use Rattle.pg_law_course.proofs.CourseSteps.{is_step, step_at}
-use Rattle.pg_law_course.proofs.StartFunctions.{Knows}
-use Rattle.pg_law_course.proofs.StepsInRun.{StepIn}
+use Rattle.pg_seats.specs.pg_num.Places.{ByteRange}
+use Rattle.pg_seats.specs.pg_ir.declared.ids.InstrId.{InstrId}
+use Rattle.pg_seats.specs.pg_ir.declared.request.Request.{Request}
+use Rattle.pg_seats.specs.pg_ir.declared.request.Request.TheVariants as requests
+use Rattle.pg_seats.specs.pg_ir.Program.{NumberedProgram}
+use Rattle.pg_seats.specs.pg_run_thread.declared.action.Action.{Action}
+use Rattle.pg_seats.specs.pg_run_thread.declared.action.Action.TheVariants as actions
+use Rattle.pg_seats.specs.pg_run_thread.LocalState.{LocalState}
+use Rattle.pg_seats.specs.pg_run_thread.Step.{next}
+use Rattle.pg_seats.specs.pg_run_trace.declared.schedule.Schedule.{Schedule}
+use Rattle.pg_seats.specs.pg_run_trace.declared.step.Happening.{Happening}
+use Rattle.pg_seats.specs.pg_run_trace.declared.turn.Turn.{Turn}
+use Rattle.pg_seats.specs.pg_run_trace.declared.turn.TurnKind.{TurnKind}
+use Rattle.pg_seats.specs.pg_run_trace.declared.turn.TurnKind.TheVariants as kinds
+use Rattle.pg_seats.specs.pg_run_trace.Kinds.{kind_of}
+use Rattle.pg_seats.specs.pg_run_trace.Steps.{event_of}
+use Rattle.pg_seats.specs.pg_run.MachineStep.{happening_if, happening_of, turn_of, turn_with}
+use Rattle.pg_seats.specs.pg_run.State.{State, next_of}
+use Rattle.pg_seats.proofs.of_pg_run.StepsBegin.{ready_made}
+use Rattle.pg_seats.proofs.of_pg_law_effects.ToldByStep.{event_is}
+use Rattle.pg_seats.specs.pg_law_effects.PermittedSteps.{none_taken}
+use Rattle.pg_seats.specs.pg_law_runs.Cuts.{CanRun}
+use Rattle.pg_seats.specs.pg_law_runs.Deeds.{Did, is_event_at}
+use Rattle.pg_seats.specs.pg_law_order.Good.{IsGoodRun}
+use Rattle.pg_seats.specs.pg_law_course.Course.{before, course, state_at}
+use Rattle.pg_seats.specs.pg_law_course.Plan.{first_seen, guided_deeds}
+use Rattle.pg_seats.specs.pg_law_course.Steps.{IsStepOf, happening_by, made_by}
+use Rattle.pg_seats.specs.pg_law_course.Threads.{is_create}
+use Rattle.pg_seats.proofs.of_pg_law_course.CoursePlaces.{Place, place}
+use Rattle.pg_seats.proofs.of_pg_law_course.CourseSteps.{is_step, step_at}
+use Rattle.pg_seats.proofs.of_pg_law_course.StartFunctions.{Knows}
+use Rattle.pg_seats.proofs.of_pg_law_course.StepsInRun.{StepIn}
 
 -- ---- the thread that a create's turn names
 

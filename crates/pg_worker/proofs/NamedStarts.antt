@@ -2,22 +2,22 @@
 use Rattle.std.proofs.Common.{◌≡◌, ℕ, zero, suc, inr, List, [], ◌∷◌, map, true, Option, Some, None, refl, sym, ◌∙◌, subst}
 use Rattle.std.specs.Prelude.{slice_get}
 use Rattle.std.specs.List.{AllByRecursion}
-use Rattle.pg_ir.specs.declared.edge.Case.{Case}
-use Rattle.pg_ir.specs.declared.edge.Incoming.{Incoming}
-use Rattle.pg_ir.specs.declared.instr.Instr.{Instr}
-use Rattle.pg_ir.specs.declared.instr.Op.{Op}
-use Rattle.pg_ir.specs.declared.instr.Op.TheVariants as op
-use Rattle.pg_ir.specs.declared.library_call.LibraryCall.{LibraryCall}
-use Rattle.pg_ir.specs.declared.library_call.LibraryCall.TheVariants.{PthreadCreate}
-use Rattle.pg_ir.specs.declared.value.Index.{Index}
-use Rattle.pg_ir.specs.declared.value.Scalar.{Scalar}
-use Rattle.pg_ir.specs.declared.value.Value.{Value}
-use Rattle.pg_ir.specs.declared.value.Value.TheVariants as value
-use Rattle.pg_ir.specs.Program.{NumberedProgram}
-use Rattle.pg_ir.specs.Signatures.{parameters_of}
-use Rattle.pg_ir.specs.WellFormed.{BeginsThread, FitLibraryCall, FitsIncoming, FitsIndex, FitsInstr, FitsOp, HasType, HaveTypes, StartsAs, StartsThread, parameter_types}
-use Rattle.pg_run_thread.specs.Operands.{operands_of}
-use Rattle.pg_law_course.specs.Threads.{function_value}
+use Rattle.pg_seats.specs.pg_ir.declared.edge.Case.{Case}
+use Rattle.pg_seats.specs.pg_ir.declared.edge.Incoming.{Incoming}
+use Rattle.pg_seats.specs.pg_ir.declared.instr.Instr.{Instr}
+use Rattle.pg_seats.specs.pg_ir.declared.instr.Op.{Op}
+use Rattle.pg_seats.specs.pg_ir.declared.instr.Op.TheVariants as op
+use Rattle.pg_seats.specs.pg_ir.declared.library_call.LibraryCall.{LibraryCall}
+use Rattle.pg_seats.specs.pg_ir.declared.library_call.LibraryCall.TheVariants.{PthreadCreate}
+use Rattle.pg_seats.specs.pg_ir.declared.value.Index.{Index}
+use Rattle.pg_seats.specs.pg_ir.declared.value.Scalar.{Scalar}
+use Rattle.pg_seats.specs.pg_ir.declared.value.Value.{Value}
+use Rattle.pg_seats.specs.pg_ir.declared.value.Value.TheVariants as value
+use Rattle.pg_seats.specs.pg_ir.Program.{NumberedProgram}
+use Rattle.pg_seats.specs.pg_ir.Signatures.{parameters_of}
+use Rattle.pg_seats.specs.pg_ir.WellFormed.{BeginsThread, FitLibraryCall, FitsIncoming, FitsIndex, FitsInstr, FitsOp, HasType, HaveTypes, StartsAs, StartsThread, parameter_types}
+use Rattle.pg_seats.specs.pg_run_thread.Operands.{operands_of}
+use Rattle.pg_seats.specs.pg_law_course.Threads.{function_value}
 use Rattle.pg_worker.specs.Calls.{is_call}
 
 -- this operand isn't a function's name

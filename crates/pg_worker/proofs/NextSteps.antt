@@ -5,28 +5,28 @@ use Rattle.std.specs.List.{cons_option}
 use Rattle.std.proofs.lemmas.Bool.{cases_lt, leb-true}
 use Rattle.std.proofs.lemmas.Option.{slice_get_within}
 use Rattle.atomic_table.specs.Seated.{TableId}
-use Rattle.pg_num.specs.declared.limits.TheConstants.{GUIDED_STEP_LIMIT}
-use Rattle.pg_ir.specs.Program.{NumberedProgram}
-use Rattle.pg_law_threads.specs.Effects.{deeds}
-use Rattle.pg_run_thread.specs.LocalState.{LocalState}
-use Rattle.pg_run_thread.specs.Step.{after, next}
-use Rattle.pg_run_thread.specs.Told.{id_of}
-use Rattle.pg_run_trace.specs.declared.schedule.Schedule.{Schedule}
-use Rattle.pg_law_runs.specs.Deeds.{Did, goes_on, is_event_at}
-use Rattle.pg_law_course.specs.Course.{cells_before, course, local_behind, next_turn, shared_in, state_at, turns_before, turns_in}
-use Rattle.pg_law_course.specs.Prints.{number_printed, numbers_printed}
-use Rattle.pg_law_course.specs.Rests.{RestsAt, has_spent}
-use Rattle.pg_law_course.proofs.CoursePlaces.{count_more, get_length}
-use Rattle.pg_law_course.proofs.CourseSteps.{is_step}
-use Rattle.pg_law_course.proofs.OutputByTurns.{more_numbers}
-use Rattle.pg_law_course.proofs.RestingThreads.{rests_at}
+use Rattle.pg_seats.specs.pg_num.declared.limits.TheConstants.{GUIDED_STEP_LIMIT}
+use Rattle.pg_seats.specs.pg_ir.Program.{NumberedProgram}
+use Rattle.pg_seats.specs.pg_law_threads.Effects.{deeds}
+use Rattle.pg_seats.specs.pg_run_thread.LocalState.{LocalState}
+use Rattle.pg_seats.specs.pg_run_thread.Step.{after, next}
+use Rattle.pg_seats.specs.pg_run_thread.Told.{id_of}
+use Rattle.pg_seats.specs.pg_run_trace.declared.schedule.Schedule.{Schedule}
+use Rattle.pg_seats.specs.pg_law_runs.Deeds.{Did, goes_on, is_event_at}
+use Rattle.pg_seats.specs.pg_law_course.Course.{cells_before, course, local_behind, next_turn, shared_in, state_at, turns_before, turns_in}
+use Rattle.pg_seats.specs.pg_law_course.Prints.{number_printed, numbers_printed}
+use Rattle.pg_seats.specs.pg_law_course.Rests.{RestsAt, has_spent}
+use Rattle.pg_seats.proofs.of_pg_law_course.CoursePlaces.{count_more, get_length}
+use Rattle.pg_seats.proofs.of_pg_law_course.CourseSteps.{is_step}
+use Rattle.pg_seats.proofs.of_pg_law_course.OutputByTurns.{more_numbers}
+use Rattle.pg_seats.proofs.of_pg_law_course.RestingThreads.{rests_at}
 use Rattle.pg_seats.specs.declared.run.Run.{Run}
 use Rattle.pg_seats.specs.declared.run.Standing.{Standing}
 use Rattle.pg_seats.specs.declared.run.View.TheVariants as views
 use Rattle.pg_seats.specs.Plan.{IsEnforced}
 use Rattle.pg_worker.specs.declared.worker.Worker.{Worker}
-use Rattle.pg_num.specs.Places.{ByteRange, IsPlace}
-use Rattle.pg_law_threads.specs.Effects.{or_old}
+use Rattle.pg_seats.specs.pg_num.Places.{ByteRange, IsPlace}
+use Rattle.pg_seats.specs.pg_law_threads.Effects.{or_old}
 use Rattle.pg_worker.specs.Pages.{is_marked, page_of}
 use Rattle.pg_worker.specs.Standing.{HasMarks, IsAt, IsResumed, IsSeatAt, answer_at, place_stored, value_left}
 pub use Rattle.pg_worker.proofs.StepLeaves.{HasStep}
@@ -102,7 +102,7 @@ module _ (r : Run) (table : TableId) (a b : Worker) (at : IsAt r table 0 a) (n :
         ∙ ap (λ (m : ℕ). Some (after r.program a.fiber m)) (sym answered) ∙ ap Some (sym h.fiber);
     of = h.of;
     steps = (let x = h.left in let y = at.steps in omega (arith, x, y));
-    turns = ap (λ v. v.items) h.turns ∙ at.turns ∙ ap (λ (u : ℕ). Rattle.pg_law_course.specs.Course.turns_of u r.schedule.turns) thread;
+    turns = ap (λ v. v.items) h.turns ∙ at.turns ∙ ap (λ (u : ℕ). Rattle.pg_seats.specs.pg_law_course.Course.turns_of u r.schedule.turns) thread;
     turns_done = h.done ∙ at.turns_done
         ∙ sym (count_more deeds.is_event (course r.program r.input r.schedule a.thread.0) at.taken n.step n.there
         ∙ ap (λ (e : Bool). if e then suc (turns_in r.program r.input r.schedule a.thread.0 at.taken) else turns_in r.program r.input r.schedule a.thread.0 at.taken) plain)

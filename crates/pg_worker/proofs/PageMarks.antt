@@ -6,8 +6,8 @@ use Rattle.std.proofs.lemmas.Bool.{eq-eqb, eqb-false, eqb-true}
 use Rattle.std.proofs.lemmas.List.{get_or-set_other, get_or-set_same}
 use Rattle.std.proofs.lemmas.Option.{get_or_from_slice_get, slice_get-get_or}
 use Rattle.std.proofs.lemmas.Nat.Bits.{bit_at-lt, bit_at-zero, bit_at_or, bit_at_set_same}
-use Rattle.pg_num.specs.Places.{ByteRange, IsPlace}
-use Rattle.pg_num.proofs.Granules.{IsPlace-some}
+use Rattle.pg_seats.specs.pg_num.Places.{ByteRange, IsPlace}
+use Rattle.pg_seats.proofs.of_pg_num.Granules.{IsPlace-some}
 use Rattle.pg_worker.specs.Pages.{is_marked, page_of}
 
 zero_at : (n i : ℕ) → slice_index (replicate n 0) i ≡ 0

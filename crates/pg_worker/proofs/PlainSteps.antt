@@ -3,29 +3,29 @@ use Rattle.std.proofs.Common.{◌≡◌, ℕ, ℤ, suc, ◌*◌, ◌<◌, ◌≤
 use Rattle.std.specs.Prelude.{◌&&◌, slice_get, if◌then◌else◌}
 use Rattle.std.proofs.lemmas.Bool.{eq-eqb}
 use Rattle.atomic_table.specs.Seated.{TableId}
-use Rattle.pg_num.specs.Inputs.{input_at}
-use Rattle.pg_num.specs.Places.{ByteRange, IsPlace}
-use Rattle.pg_ir.specs.Program.{NumberedProgram}
-use Rattle.pg_run_thread.specs.LocalState.{LocalState}
-use Rattle.pg_run_thread.specs.Step.{after, next}
-use Rattle.pg_run_thread.specs.Told.{id_of}
-use Rattle.pg_run_thread.specs.declared.action.Action.{Action}
-use Rattle.pg_run_thread.specs.declared.action.Action.TheVariants as actions
-use Rattle.pg_run_trace.specs.declared.step.Access.{Access}
-use Rattle.pg_run_trace.specs.Steps.{access_of, event_of}
-use Rattle.pg_run.specs.Fits.{ActionFits}
-use Rattle.pg_run.specs.MachineStep.{is_gated}
-use Rattle.pg_run.proofs.FitActions.{action_fits}
-use Rattle.pg_law_threads.specs.Effects.{deeds}
-use Rattle.pg_law_threads.specs.Intervals.{Timed, timed}
-use Rattle.pg_law_runs.specs.Deeds.{Did, goes_on, is_event_at, owners_of}
-use Rattle.pg_law_course.specs.Course.{cells_before, course, shared_in, turns_before, turns_in}
-use Rattle.pg_law_course.specs.Plan.{is_shared}
-use Rattle.pg_law_course.specs.Prints.{number_printed}
-use Rattle.pg_law_course.specs.Steps.{Accessed, access_by, accessed, is_shared_action, made_by, number_in}
-use Rattle.pg_law_course.proofs.ActionCells.{number_same}
-use Rattle.pg_law_course.proofs.CoursePlaces.{count_more, get_length}
-use Rattle.pg_law_course.proofs.SharedPlaces.{same_cells, shared_place}
+use Rattle.pg_seats.specs.pg_num.Inputs.{input_at}
+use Rattle.pg_seats.specs.pg_num.Places.{ByteRange, IsPlace}
+use Rattle.pg_seats.specs.pg_ir.Program.{NumberedProgram}
+use Rattle.pg_seats.specs.pg_run_thread.LocalState.{LocalState}
+use Rattle.pg_seats.specs.pg_run_thread.Step.{after, next}
+use Rattle.pg_seats.specs.pg_run_thread.Told.{id_of}
+use Rattle.pg_seats.specs.pg_run_thread.declared.action.Action.{Action}
+use Rattle.pg_seats.specs.pg_run_thread.declared.action.Action.TheVariants as actions
+use Rattle.pg_seats.specs.pg_run_trace.declared.step.Access.{Access}
+use Rattle.pg_seats.specs.pg_run_trace.Steps.{access_of, event_of}
+use Rattle.pg_seats.specs.pg_run.Fits.{ActionFits}
+use Rattle.pg_seats.specs.pg_run.MachineStep.{is_gated}
+use Rattle.pg_seats.proofs.of_pg_run.FitActions.{action_fits}
+use Rattle.pg_seats.specs.pg_law_threads.Effects.{deeds}
+use Rattle.pg_seats.specs.pg_law_threads.Intervals.{Timed, timed}
+use Rattle.pg_seats.specs.pg_law_runs.Deeds.{Did, goes_on, is_event_at, owners_of}
+use Rattle.pg_seats.specs.pg_law_course.Course.{cells_before, course, shared_in, turns_before, turns_in}
+use Rattle.pg_seats.specs.pg_law_course.Plan.{is_shared}
+use Rattle.pg_seats.specs.pg_law_course.Prints.{number_printed}
+use Rattle.pg_seats.specs.pg_law_course.Steps.{Accessed, access_by, accessed, is_shared_action, made_by, number_in}
+use Rattle.pg_seats.proofs.of_pg_law_course.ActionCells.{number_same}
+use Rattle.pg_seats.proofs.of_pg_law_course.CoursePlaces.{count_more, get_length}
+use Rattle.pg_seats.proofs.of_pg_law_course.SharedPlaces.{same_cells, shared_place}
 use Rattle.pg_seats.specs.declared.run.Run.{Run}
 use Rattle.pg_seats.specs.declared.run.Standing.{Standing}
 use Rattle.pg_seats.specs.declared.run.View.{View}

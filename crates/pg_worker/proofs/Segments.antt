@@ -2,22 +2,22 @@
 use Rattle.std.proofs.Common.{◌≡◌, ◌<◌, ℕ, suc, length, Bool, true, false, refl, sym, ◌∙◌, ap, subst, arith}
 use Rattle.std.specs.Prelude.{◌==◌, ◌||◌}
 use Rattle.std.proofs.lemmas.Bool.{eq-eqb, eqb-true, false_from_ne_true}
-use Rattle.pg_ir.specs.Program.{NumberedProgram}
-use Rattle.pg_run_thread.specs.Advance.{advanced, done_if, local_told}
-use Rattle.pg_run_thread.specs.LocalState.{LocalState}
-use Rattle.pg_run_thread.specs.States.{IsOf}
-use Rattle.pg_run_thread.specs.Step.{after, next}
-use Rattle.pg_run_thread.specs.declared.action.Action.{Action}
-use Rattle.pg_run_thread.specs.declared.action.Action.TheVariants as actions
-use Rattle.pg_run_thread.specs.declared.advance.Advance.{Advance}
-use Rattle.pg_run_thread.specs.declared.advance.Advance.TheVariants.{Asks, Done}
-use Rattle.pg_run_thread.specs.declared.advance.LocalStep.{LocalStep}
+use Rattle.pg_seats.specs.pg_ir.Program.{NumberedProgram}
+use Rattle.pg_seats.specs.pg_run_thread.Advance.{advanced, done_if, local_told}
+use Rattle.pg_seats.specs.pg_run_thread.LocalState.{LocalState}
+use Rattle.pg_seats.specs.pg_run_thread.States.{IsOf}
+use Rattle.pg_seats.specs.pg_run_thread.Step.{after, next}
+use Rattle.pg_seats.specs.pg_run_thread.declared.action.Action.{Action}
+use Rattle.pg_seats.specs.pg_run_thread.declared.action.Action.TheVariants as actions
+use Rattle.pg_seats.specs.pg_run_thread.declared.advance.Advance.{Advance}
+use Rattle.pg_seats.specs.pg_run_thread.declared.advance.Advance.TheVariants.{Asks, Done}
+use Rattle.pg_seats.specs.pg_run_thread.declared.advance.LocalStep.{LocalStep}
 use Rattle.pg_worker.specs.declared.worker.Paused.{Paused}
 use Rattle.pg_worker.specs.declared.worker.Paused.TheVariants as pauses
 use Rattle.pg_worker.specs.declared.worker.Worker.{Worker}
-use Rattle.pg_run_thread.specs.Told.{id_of}
-use Rattle.pg_law_runs.specs.Deeds.{is_event_at}
-use Rattle.pg_law_course.specs.Rests.{is_trap}
+use Rattle.pg_seats.specs.pg_run_thread.Told.{id_of}
+use Rattle.pg_seats.specs.pg_law_runs.Deeds.{is_event_at}
+use Rattle.pg_seats.specs.pg_law_course.Rests.{is_trap}
 use Rattle.pg_seats.specs.declared.run.Run.{Run}
 use Rattle.pg_worker.specs.Standing.{HasPaused, HasToWait, HasWaited, IsResumed, TookOne, TookTurn, WentOn, is_end, is_stopped, waits_there}
 use Rattle.pg_worker.proofs.DueTurns.{traps_not}

@@ -3,22 +3,22 @@ use Rattle.std.proofs.Common.{◌≡◌, ℕ, zero, suc, ◌+◌, ◌-◌, ◌/�
 use Rattle.std.specs.Prelude.{◌==◌, nat_le, nat_lt, is_some, slice_get, take, if◌then◌else◌}
 use Rattle.std.proofs.lemmas.Bool.{and_parts, cases_lt, eqb-true, leb-true, ltb-true}
 use Rattle.std.proofs.lemmas.Bool.Decides.{nat_tests}
-use Rattle.pg_num.specs.Places.{ByteRange, IsPlace}
-use Rattle.pg_num.specs.declared.layout.TheConstants.{MEMORY_BYTES}
-use Rattle.pg_num.proofs.Granules.{IsPlace-in_granule}
-use Rattle.pg_ir.specs.declared.request.Request.{Request}
-use Rattle.pg_ir.specs.declared.request.Request.TheVariants as requests
-use Rattle.pg_run_thread.specs.LocalState.{LocalState}
-use Rattle.pg_run_thread.specs.Step.{next}
-use Rattle.pg_run_thread.specs.declared.action.Action.{Action}
-use Rattle.pg_run_thread.specs.declared.action.Action.TheVariants as actions
-use Rattle.pg_run_trace.specs.Steps.{event_of}
-use Rattle.pg_law_threads.specs.Effects.{or_old}
-use Rattle.pg_law_effects.specs.Meets.{byte_in, is_in}
-use Rattle.pg_law_runs.specs.Deeds.{Did}
-use Rattle.pg_law_course.specs.Course.{cells_before, course}
-use Rattle.pg_law_course.specs.Prints.{word_behind}
-use Rattle.pg_law_course.specs.Steps.{made_by, word_by, write_by, writes_by}
+use Rattle.pg_seats.specs.pg_num.Places.{ByteRange, IsPlace}
+use Rattle.pg_seats.specs.pg_num.declared.layout.TheConstants.{MEMORY_BYTES}
+use Rattle.pg_seats.proofs.of_pg_num.Granules.{IsPlace-in_granule}
+use Rattle.pg_seats.specs.pg_ir.declared.request.Request.{Request}
+use Rattle.pg_seats.specs.pg_ir.declared.request.Request.TheVariants as requests
+use Rattle.pg_seats.specs.pg_run_thread.LocalState.{LocalState}
+use Rattle.pg_seats.specs.pg_run_thread.Step.{next}
+use Rattle.pg_seats.specs.pg_run_thread.declared.action.Action.{Action}
+use Rattle.pg_seats.specs.pg_run_thread.declared.action.Action.TheVariants as actions
+use Rattle.pg_seats.specs.pg_run_trace.Steps.{event_of}
+use Rattle.pg_seats.specs.pg_law_threads.Effects.{or_old}
+use Rattle.pg_seats.specs.pg_law_effects.Meets.{byte_in, is_in}
+use Rattle.pg_seats.specs.pg_law_runs.Deeds.{Did}
+use Rattle.pg_seats.specs.pg_law_course.Course.{cells_before, course}
+use Rattle.pg_seats.specs.pg_law_course.Prints.{word_behind}
+use Rattle.pg_seats.specs.pg_law_course.Steps.{made_by, word_by, write_by, writes_by}
 use Rattle.pg_seats.specs.declared.run.Run.{Run}
 use Rattle.pg_seats.specs.Plan.{IsEnforced}
 use Rattle.pg_worker.specs.Pages.{is_marked, page_of}
@@ -29,7 +29,7 @@ use Rattle.pg_worker.proofs.MainCreates.{makes_another}
 pub record HasStep (r : Run) (t k : ℕ) (l : LocalState) : Type 0 where
   pub step : Did
   pub there : slice_get (course r.program r.input r.schedule t) k ≡ Some step
-  pub of : Rattle.pg_law_course.specs.Steps.IsStepOf r.program r.input r.schedule t k l step
+  pub of : Rattle.pg_seats.specs.pg_law_course.Steps.IsStepOf r.program r.input r.schedule t k l step
 
 some_did : (a b : Did) → Some a ≡ Some b → a ≡ b
 some_did a b e = cc
@@ -95,7 +95,7 @@ word_more [] k d w e = absurd cc
 word_more (x ∷ xs) zero d w e = ap (λ (y : Did). or_old (y.writes (MEMORY_BYTES + 0)) w) (some_did x d e)
 word_more (x ∷ xs) (suc k) d w e = word_more xs k d (or_old (x.writes (MEMORY_BYTES + 0)) w) e
 
-module _ (r : Run) (h : IsEnforced r) (t k : ℕ) (l : LocalState) (n : HasStep r t k l) (now : Rattle.pg_law_course.specs.Course.state_at r.program r.input r.schedule t k ≡ Some l) where
+module _ (r : Run) (h : IsEnforced r) (t k : ℕ) (l : LocalState) (n : HasStep r t k l) (now : Rattle.pg_seats.specs.pg_law_course.Course.state_at r.program r.input r.schedule t k ≡ Some l) where
   abbrev cells : ℕ → ℕ
   cells = cells_before r.program r.input r.schedule t k
 

@@ -4,26 +4,26 @@ use Rattle.std.specs.Prelude.{◌&&◌, IfSome, slice_get, slice_index}
 use Rattle.std.proofs.lemmas.Bool.{and_parts}
 use Rattle.atomic_table.specs.Seated.{TableId}
 use Rattle.atomic_table.specs.declared.shared.Seat.{Seat}
-use Rattle.pg_num.specs.Places.{ByteRange}
-use Rattle.pg_num.specs.declared.layout.TheConstants.{MEMORY_BYTES}
-use Rattle.pg_num.specs.declared.limits.TheConstants.{THREAD_LIMIT}
-use Rattle.pg_ir.specs.declared.ids.InstrId.{InstrId}
-use Rattle.pg_ir.specs.declared.request.Request.{Request}
-use Rattle.pg_ir.specs.declared.request.Request.TheVariants as requests
-use Rattle.pg_run.specs.Fits.{ActionFits}
-use Rattle.pg_run.proofs.FitActions.{action_fits}
-use Rattle.pg_run_thread.specs.Step.{next}
-use Rattle.pg_run_thread.specs.Told.{id_of}
-use Rattle.pg_run_thread.specs.declared.action.Action.{Action}
-use Rattle.pg_run_thread.specs.declared.action.Action.TheVariants as actions
-use Rattle.pg_law_threads.specs.Effects.{deeds}
-use Rattle.pg_law_runs.specs.Deeds.{is_event_at}
-use Rattle.pg_law_course.specs.Course.{cells_before, course, shared_in, state_at, turns_before}
-use Rattle.pg_law_course.specs.Plan.{is_shared}
-use Rattle.pg_law_course.specs.Steps.{answer_by, made_by, number_in, thread_named, word_in}
-use Rattle.pg_law_course.proofs.CoursePlaces.{get_length}
-use Rattle.pg_run_trace.specs.Steps.{event_of}
-use Rattle.pg_words.specs.Calls.{NoSlot}
+use Rattle.pg_seats.specs.pg_num.Places.{ByteRange}
+use Rattle.pg_seats.specs.pg_num.declared.layout.TheConstants.{MEMORY_BYTES}
+use Rattle.pg_seats.specs.pg_num.declared.limits.TheConstants.{THREAD_LIMIT}
+use Rattle.pg_seats.specs.pg_ir.declared.ids.InstrId.{InstrId}
+use Rattle.pg_seats.specs.pg_ir.declared.request.Request.{Request}
+use Rattle.pg_seats.specs.pg_ir.declared.request.Request.TheVariants as requests
+use Rattle.pg_seats.specs.pg_run.Fits.{ActionFits}
+use Rattle.pg_seats.proofs.of_pg_run.FitActions.{action_fits}
+use Rattle.pg_seats.specs.pg_run_thread.Step.{next}
+use Rattle.pg_seats.specs.pg_run_thread.Told.{id_of}
+use Rattle.pg_seats.specs.pg_run_thread.declared.action.Action.{Action}
+use Rattle.pg_seats.specs.pg_run_thread.declared.action.Action.TheVariants as actions
+use Rattle.pg_seats.specs.pg_law_threads.Effects.{deeds}
+use Rattle.pg_seats.specs.pg_law_runs.Deeds.{is_event_at}
+use Rattle.pg_seats.specs.pg_law_course.Course.{cells_before, course, shared_in, state_at, turns_before}
+use Rattle.pg_seats.specs.pg_law_course.Plan.{is_shared}
+use Rattle.pg_seats.specs.pg_law_course.Steps.{answer_by, made_by, number_in, thread_named, word_in}
+use Rattle.pg_seats.proofs.of_pg_law_course.CoursePlaces.{get_length}
+use Rattle.pg_seats.specs.pg_run_trace.Steps.{event_of}
+use Rattle.pg_seats.specs.pg_words.Calls.{NoSlot}
 use Rattle.pg_seats.specs.declared.run.Run.{Run}
 use Rattle.pg_seats.specs.declared.run.Standing.{Standing}
 use Rattle.pg_seats.specs.declared.run.View.{View}

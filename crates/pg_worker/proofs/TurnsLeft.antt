@@ -4,29 +4,29 @@ use Rattle.std.specs.Prelude.{◌==◌, ◌||◌, IfSome, slice_get, if◌then�
 use Rattle.std.specs.List.{filter}
 use Rattle.std.proofs.lemmas.Bool.{eqb-true}
 use Rattle.std.proofs.lemmas.Option.{slice_get_within}
-use Rattle.pg_ir.specs.Program.{NumberedProgram}
-use Rattle.pg_run_trace.specs.declared.schedule.Schedule.{Schedule}
-use Rattle.pg_run_trace.specs.declared.step.Step.{Step}
-use Rattle.pg_run_trace.specs.declared.turn.Turn.{Turn}
-use Rattle.pg_run.specs.Permitted.{has_turn, turns_left}
-use Rattle.pg_run.specs.State.{initial}
-use Rattle.pg_law_effects.specs.PermittedSteps.{none_taken}
-use Rattle.pg_law_threads.specs.Effects.{deeds}
-use Rattle.pg_law_threads.specs.Intervals.{AreTurns, done_after, turns_done}
-use Rattle.pg_law_threads.proofs.TimedSteps.{turns_left_of}
-use Rattle.pg_law_runs.specs.Cuts.{CanRun}
-use Rattle.pg_law_runs.specs.Deeds.{Did, owners_of}
-use Rattle.pg_law_runs.proofs.DeedDependence.{get_behind}
-use Rattle.pg_law_runs.proofs.DeedLists.{map_append, told_is, told_of}
-use Rattle.pg_law_order.specs.Good.{IsGoodRun, run_along}
-use Rattle.pg_law_course.specs.Course.{before, course, turns_before, turns_in, turns_of}
-use Rattle.pg_law_course.specs.Plan.{first_seen, guided_deeds, turn_count}
-use Rattle.pg_law_course.proofs.CoursePlaces.{Place, own_before, place, steps_of}
-use Rattle.pg_law_course.proofs.CourseSteps.{are_turns, step_at, turns_told}
-use Rattle.pg_law_course.proofs.GuidedPlan.{ordered_full}
-use Rattle.pg_law_course.proofs.StartFunctions.{Knows}
-use Rattle.pg_law_course.proofs.StepsInRun.{StepIn}
-use Rattle.pg_law_course.proofs.TurnNumbers.{below, numbered, own_turns}
+use Rattle.pg_seats.specs.pg_ir.Program.{NumberedProgram}
+use Rattle.pg_seats.specs.pg_run_trace.declared.schedule.Schedule.{Schedule}
+use Rattle.pg_seats.specs.pg_run_trace.declared.step.Step.{Step}
+use Rattle.pg_seats.specs.pg_run_trace.declared.turn.Turn.{Turn}
+use Rattle.pg_seats.specs.pg_run.Permitted.{has_turn, turns_left}
+use Rattle.pg_seats.specs.pg_run.State.{initial}
+use Rattle.pg_seats.specs.pg_law_effects.PermittedSteps.{none_taken}
+use Rattle.pg_seats.specs.pg_law_threads.Effects.{deeds}
+use Rattle.pg_seats.specs.pg_law_threads.Intervals.{AreTurns, done_after, turns_done}
+use Rattle.pg_seats.proofs.of_pg_law_threads.TimedSteps.{turns_left_of}
+use Rattle.pg_seats.specs.pg_law_runs.Cuts.{CanRun}
+use Rattle.pg_seats.specs.pg_law_runs.Deeds.{Did, owners_of}
+use Rattle.pg_seats.proofs.of_pg_law_runs.DeedDependence.{get_behind}
+use Rattle.pg_seats.proofs.of_pg_law_runs.DeedLists.{map_append, told_is, told_of}
+use Rattle.pg_seats.specs.pg_law_order.Good.{IsGoodRun, run_along}
+use Rattle.pg_seats.specs.pg_law_course.Course.{before, course, turns_before, turns_in, turns_of}
+use Rattle.pg_seats.specs.pg_law_course.Plan.{first_seen, guided_deeds, turn_count}
+use Rattle.pg_seats.proofs.of_pg_law_course.CoursePlaces.{Place, own_before, place, steps_of}
+use Rattle.pg_seats.proofs.of_pg_law_course.CourseSteps.{are_turns, step_at, turns_told}
+use Rattle.pg_seats.proofs.of_pg_law_course.GuidedPlan.{ordered_full}
+use Rattle.pg_seats.proofs.of_pg_law_course.StartFunctions.{Knows}
+use Rattle.pg_seats.proofs.of_pg_law_course.StepsInRun.{StepIn}
+use Rattle.pg_seats.proofs.of_pg_law_course.TurnNumbers.{below, numbered, own_turns}
 
 -- ---- lists
 

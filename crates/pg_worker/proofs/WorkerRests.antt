@@ -5,22 +5,22 @@ use Rattle.std.specs.List.{AllByRecursion}
 use Rattle.std.proofs.lemmas.Bool.{cases_lt, eqb-false, eqb-true, false_from_ne_true}
 use Rattle.std.proofs.lemmas.Bool.Decides.{nat_tests}
 use Rattle.atomic_table.specs.Seated.{TableId}
-use Rattle.pg_num.specs.declared.layout.TheConstants.{MEMORY_BYTES}
-use Rattle.pg_num.specs.declared.limits.TheConstants.{GUIDED_STEP_LIMIT}
-use Rattle.pg_run.specs.declared.guided_end.GuidedEnd.TheVariants as ends
-use Rattle.pg_run_thread.specs.declared.action.Action.{Action}
-use Rattle.pg_run_thread.specs.declared.action.Action.TheVariants as actions
-use Rattle.pg_run_thread.specs.Step.{next}
-use Rattle.pg_run_thread.specs.Told.{id_of}
-use Rattle.pg_law_threads.specs.Effects.{deeds}
-use Rattle.pg_law_runs.specs.Deeds.{Did, goes_on}
-use Rattle.pg_law_order.specs.Good.{run_along}
-use Rattle.pg_law_course.specs.Course.{course, next_turn, state_at, turns_before}
-use Rattle.pg_law_course.specs.Plan.{turn_count}
-use Rattle.pg_law_course.specs.Prints.{numbers_printed, word_behind}
-use Rattle.pg_law_course.specs.Rests.{held_end, is_trap, trap_end}
-use Rattle.pg_law_course.proofs.CoursePlaces.{take_all}
-use Rattle.pg_law_course.proofs.RestingThreads.{rests_at}
+use Rattle.pg_seats.specs.pg_num.declared.layout.TheConstants.{MEMORY_BYTES}
+use Rattle.pg_seats.specs.pg_num.declared.limits.TheConstants.{GUIDED_STEP_LIMIT}
+use Rattle.pg_seats.specs.pg_run.declared.guided_end.GuidedEnd.TheVariants as ends
+use Rattle.pg_seats.specs.pg_run_thread.declared.action.Action.{Action}
+use Rattle.pg_seats.specs.pg_run_thread.declared.action.Action.TheVariants as actions
+use Rattle.pg_seats.specs.pg_run_thread.Step.{next}
+use Rattle.pg_seats.specs.pg_run_thread.Told.{id_of}
+use Rattle.pg_seats.specs.pg_law_threads.Effects.{deeds}
+use Rattle.pg_seats.specs.pg_law_runs.Deeds.{Did, goes_on}
+use Rattle.pg_seats.specs.pg_law_order.Good.{run_along}
+use Rattle.pg_seats.specs.pg_law_course.Course.{course, next_turn, state_at, turns_before}
+use Rattle.pg_seats.specs.pg_law_course.Plan.{turn_count}
+use Rattle.pg_seats.specs.pg_law_course.Prints.{numbers_printed, word_behind}
+use Rattle.pg_seats.specs.pg_law_course.Rests.{held_end, is_trap, trap_end}
+use Rattle.pg_seats.proofs.of_pg_law_course.CoursePlaces.{take_all}
+use Rattle.pg_seats.proofs.of_pg_law_course.RestingThreads.{rests_at}
 use Rattle.pg_seats.specs.declared.run.Run.{Run}
 use Rattle.pg_worker.specs.declared.worker.Worker.{Worker}
 use Rattle.pg_worker.specs.Pages.{is_marked, page_of}

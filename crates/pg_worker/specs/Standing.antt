@@ -2,26 +2,26 @@
 use Rattle.std.specs.Prelude.{◌≡◌, ℕ, suc, ◌+◌, ◌<◌, ◌≤◌, ◌==◌, ◌&&◌, ◌||◌, List, [], ◌++◌, length, take, Bool, true, false, Option, Some, None, is_some, slice_get, slice_index, vec_capacity, if◌then◌else◌}
 use Rattle.std.specs.List.{cons_option}
 use Rattle.atomic_table.specs.Seated.{TableId}
-use Rattle.pg_num.specs.Places.{ByteRange, IsPlace}
-use Rattle.pg_num.specs.declared.layout.TheConstants.{MEMORY_BYTES}
-use Rattle.pg_num.specs.declared.limits.TheConstants.{GUIDED_STEP_LIMIT}
-use Rattle.pg_ir.specs.declared.request.Request.{Request}
-use Rattle.pg_ir.specs.declared.request.Request.TheVariants as requests
-use Rattle.pg_ir.specs.Program.{NumberedProgram}
-use Rattle.pg_run_thread.specs.declared.action.Action.{Action}
-use Rattle.pg_run_thread.specs.declared.action.Action.TheVariants as actions
-use Rattle.pg_run_thread.specs.LocalState.{LocalState}
-use Rattle.pg_run_thread.specs.Step.{after, next}
-use Rattle.pg_run_thread.specs.Told.{id_of}
-use Rattle.pg_run_thread.specs.States.{IsOf}
-use Rattle.pg_run.specs.declared.guided_end.GuidedEnd.{GuidedEnd}
-use Rattle.pg_run.specs.declared.guided_end.GuidedEnd.TheVariants as ends
-use Rattle.pg_law_threads.specs.Effects.{or_old}
-use Rattle.pg_law_runs.specs.Deeds.{Did, is_event_at}
-use Rattle.pg_law_course.specs.Course.{cells_before, course, shared_in, state_at, turns_before, turns_in, turns_of}
-use Rattle.pg_law_course.specs.Prints.{number_printed, numbers_printed, word_behind}
-use Rattle.pg_law_course.specs.Rests.{is_trap, trap_end}
-use Rattle.pg_law_course.specs.Steps.{answer_by}
+use Rattle.pg_seats.specs.pg_num.Places.{ByteRange, IsPlace}
+use Rattle.pg_seats.specs.pg_num.declared.layout.TheConstants.{MEMORY_BYTES}
+use Rattle.pg_seats.specs.pg_num.declared.limits.TheConstants.{GUIDED_STEP_LIMIT}
+use Rattle.pg_seats.specs.pg_ir.declared.request.Request.{Request}
+use Rattle.pg_seats.specs.pg_ir.declared.request.Request.TheVariants as requests
+use Rattle.pg_seats.specs.pg_ir.Program.{NumberedProgram}
+use Rattle.pg_seats.specs.pg_run_thread.declared.action.Action.{Action}
+use Rattle.pg_seats.specs.pg_run_thread.declared.action.Action.TheVariants as actions
+use Rattle.pg_seats.specs.pg_run_thread.LocalState.{LocalState}
+use Rattle.pg_seats.specs.pg_run_thread.Step.{after, next}
+use Rattle.pg_seats.specs.pg_run_thread.Told.{id_of}
+use Rattle.pg_seats.specs.pg_run_thread.States.{IsOf}
+use Rattle.pg_seats.specs.pg_run.declared.guided_end.GuidedEnd.{GuidedEnd}
+use Rattle.pg_seats.specs.pg_run.declared.guided_end.GuidedEnd.TheVariants as ends
+use Rattle.pg_seats.specs.pg_law_threads.Effects.{or_old}
+use Rattle.pg_seats.specs.pg_law_runs.Deeds.{Did, is_event_at}
+use Rattle.pg_seats.specs.pg_law_course.Course.{cells_before, course, shared_in, state_at, turns_before, turns_in, turns_of}
+use Rattle.pg_seats.specs.pg_law_course.Prints.{number_printed, numbers_printed, word_behind}
+use Rattle.pg_seats.specs.pg_law_course.Rests.{is_trap, trap_end}
+use Rattle.pg_seats.specs.pg_law_course.Steps.{answer_by}
 use Rattle.pg_seats.specs.declared.run.Run.{Run}
 use Rattle.pg_seats.specs.declared.run.Standing.{Standing}
 use Rattle.pg_seats.specs.declared.run.View.{View}

@@ -1,12 +1,12 @@
 -- Threads before they have a seat.
 use Rattle.std.specs.Prelude.{◌≡◌, ℕ, ◌<◌, ◌≤◌, [], length, false, vec_capacity}
-use Rattle.pg_num.specs.declared.limits.TheConstants.{THREAD_LIMIT}
-use Rattle.pg_ir.specs.Program.{NumberedProgram}
-use Rattle.pg_run_thread.specs.LocalState.{fresh}
-use Rattle.pg_run_thread.specs.States.{IsOf}
-use Rattle.pg_run_trace.specs.declared.schedule.Schedule.{Schedule}
-use Rattle.pg_law_course.specs.Course.{turns_of}
-use Rattle.pg_law_course.specs.Threads.{start_function}
+use Rattle.pg_seats.specs.pg_num.declared.limits.TheConstants.{THREAD_LIMIT}
+use Rattle.pg_seats.specs.pg_ir.Program.{NumberedProgram}
+use Rattle.pg_seats.specs.pg_run_thread.LocalState.{fresh}
+use Rattle.pg_seats.specs.pg_run_thread.States.{IsOf}
+use Rattle.pg_seats.specs.pg_run_trace.declared.schedule.Schedule.{Schedule}
+use Rattle.pg_seats.specs.pg_law_course.Course.{turns_of}
+use Rattle.pg_seats.specs.pg_law_course.Threads.{start_function}
 use Rattle.pg_worker.specs.declared.unseated.Unseated.{Unseated}
 use Rattle.pg_worker.specs.Pages.{is_marked}
 

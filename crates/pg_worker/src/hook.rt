@@ -1,6 +1,6 @@
 //! What is called before each step of a worker.
 
-use pg_ir::{InstrId, ThreadNo};
+use pg_seats::pg_ir::{InstrId, ThreadNo};
 
 /// Is called before each step of a worker, and changes none.
 pub trait Hook {

@@ -16,6 +16,8 @@ mod unseated;
 mod worker;
 
 pub use hook::{Hook, NoHook};
+pub use pg_seats;
+pub use pg_seats::{pg_ir, pg_num, pg_run, pg_run_trace};
 pub use shared::Shared;
 pub use unseated::Unseated;
 pub use worker::{Paused, Worker};

@@ -1,10 +1,10 @@
 //! The pages of memory that a worker wrote, so that they can be swept behind its run.
 
 ghost use Rattle.std.specs.Prelude.{◌≡◌, ◌<◌, ◌/◌, ℕ, length, true, false, IfOk, slice_index};
-ghost use Rattle.pg_num.specs.Places.{IsPlace};
+ghost use Rattle.pg_seats.specs.pg_num.Places.{IsPlace};
 ghost use Rattle.pg_worker.specs.Pages.{is_marked, page_of};
 
-use pg_num::Place as Range;
+use pg_seats::pg_num::Place as Range;
 use std::alloc::{AllocError, Global};
 
 /// How many pages of 64 granules memory has.

@@ -1,18 +1,18 @@
 //! What each kind of turn reads and leaves.
 
 ghost use Rattle.std.specs.Prelude.{◌≡◌, ℕ, ℤ, ◌<◌, List, Some, length, slice_get, slice_index, true};
-ghost use Rattle.pg_num.specs.declared.limits.TheConstants.{THREAD_LIMIT};
-ghost use Rattle.pg_ir.specs.declared.request.Request.TheVariants as requests;
-ghost use Rattle.pg_run_thread.specs.Step.{next};
-ghost use Rattle.pg_run_thread.specs.declared.action.Action.TheVariants as actions;
-ghost use Rattle.pg_law_course.specs.Steps.{answer_by, made_by};
+ghost use Rattle.pg_seats.specs.pg_num.declared.limits.TheConstants.{THREAD_LIMIT};
+ghost use Rattle.pg_seats.specs.pg_ir.declared.request.Request.TheVariants as requests;
+ghost use Rattle.pg_seats.specs.pg_run_thread.Step.{next};
+ghost use Rattle.pg_seats.specs.pg_run_thread.declared.action.Action.TheVariants as actions;
+ghost use Rattle.pg_seats.specs.pg_law_course.Steps.{answer_by, made_by};
 ghost use Rattle.pg_worker.specs.Standing.{IsAt, IsDue, TookTurn, is_bare, next_turn_of, run_in, stands_at_event, table_in};
 
 use crate::shared::Shared;
 use crate::worker::Worker;
-use pg_ir::{Request, ThreadNo};
-use pg_num::Place as Range;
-use pg_run_thread::Action;
+use pg_seats::pg_ir::{Request, ThreadNo};
+use pg_seats::pg_num::Place as Range;
+use pg_seats::pg_run_thread::Action;
 use pg_seats::{accesses, turns};
 
 /// The answer to a request that reads and leaves nothing, by the schedule's reply.

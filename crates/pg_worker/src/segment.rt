@@ -1,17 +1,17 @@
 //! Segments: the steps of a worker until its next turn isn't due.
 
 ghost use Rattle.std.specs.Prelude.{◌≡◌, ◌<◌, IfNone, IfSome, length, true};
-ghost use Rattle.pg_run_thread.specs.States.{IsOf};
-ghost use Rattle.pg_run_thread.specs.Step.{after, next};
-ghost use Rattle.pg_run_thread.specs.declared.action.Action.TheVariants as actions;
+ghost use Rattle.pg_seats.specs.pg_run_thread.States.{IsOf};
+ghost use Rattle.pg_seats.specs.pg_run_thread.Step.{after, next};
+ghost use Rattle.pg_seats.specs.pg_run_thread.declared.action.Action.TheVariants as actions;
 ghost use Rattle.pg_worker.specs.Standing.{HasDone, HasPaused, IsAt, TookOne, WentOn, run_in, table_in, waits_there};
 
 use crate::hook::Hook;
 use crate::shared::Shared;
 use crate::worker::{Paused, Taken, Worker};
-use pg_ir::Program;
-use pg_num::Place as Range;
-use pg_run_thread::{Action, Advance, Fiber};
+use pg_seats::pg_ir::Program;
+use pg_seats::pg_num::Place as Range;
+use pg_seats::pg_run_thread::{Action, Advance, Fiber};
 
 /// Does a thread's next step if only its own state decides and sees it, or else gives what it asks.
 fn ask(p: &Program, fiber: &mut Fiber) -> Option<Action>

@@ -1,13 +1,13 @@
 //! The function with which a thread begins.
 
 ghost use Rattle.std.specs.Prelude.{◌≡◌, ℕ, Some, find, slice_get, true};
-ghost use Rattle.pg_ir.specs.WellFormed.{StartsAs};
-ghost use Rattle.pg_run_thread.specs.Operands.{operands_of};
-ghost use Rattle.pg_law_course.specs.Threads.{created_by, creates, function_value, start_function};
+ghost use Rattle.pg_seats.specs.pg_ir.WellFormed.{StartsAs};
+ghost use Rattle.pg_seats.specs.pg_run_thread.Operands.{operands_of};
+ghost use Rattle.pg_seats.specs.pg_law_course.Threads.{created_by, creates, function_value, start_function};
 ghost use Rattle.pg_worker.specs.Calls.{is_call};
 
-use pg_ir::{Op, Program, ThreadNo, Value};
-use pg_run_trace::{Turn, TurnKind};
+use pg_seats::pg_ir::{Op, Program, ThreadNo, Value};
+use pg_seats::pg_run_trace::{Turn, TurnKind};
 
 /// Whether a turn creates a thread.
 fn creates(thread: ThreadNo, turn: &Turn) -> bool

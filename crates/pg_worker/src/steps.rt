@@ -1,19 +1,19 @@
 //! The steps of a worker that are no turns: those that its own state decides, reads of the input, and plain loads and stores.
 
 ghost use Rattle.std.specs.Prelude.{◌≡◌, ◌<◌, length, false};
-ghost use Rattle.pg_run.specs.MachineStep.{is_gated};
-ghost use Rattle.pg_run_thread.specs.States.{CanStep, IsOf};
-ghost use Rattle.pg_run_thread.specs.Step.{next};
-ghost use Rattle.pg_run_thread.specs.Told.{id_of};
-ghost use Rattle.pg_run_thread.specs.declared.action.Action.TheVariants as actions;
+ghost use Rattle.pg_seats.specs.pg_run.MachineStep.{is_gated};
+ghost use Rattle.pg_seats.specs.pg_run_thread.States.{CanStep, IsOf};
+ghost use Rattle.pg_seats.specs.pg_run_thread.Step.{next};
+ghost use Rattle.pg_seats.specs.pg_run_thread.Told.{id_of};
+ghost use Rattle.pg_seats.specs.pg_run_thread.declared.action.Action.TheVariants as actions;
 ghost use Rattle.pg_worker.specs.Standing.{IsAt, IsResumed, TookOne, run_in, table_in};
 
 use crate::shared::Shared;
 use crate::worker::Worker;
-use pg_ir::Program;
-use pg_num::Place as Range;
-use pg_run::number_at;
 use pg_seats::accesses;
+use pg_seats::pg_ir::Program;
+use pg_seats::pg_num::Place as Range;
+use pg_seats::pg_run::number_at;
 
 impl Worker {
     /// Goes on with the answer to its next action: one step more is taken.

@@ -1,10 +1,10 @@
 //! The turns of one thread.
 
 ghost use Rattle.std.specs.Prelude.{◌≡◌, IfOk};
-ghost use Rattle.pg_law_course.specs.Course.{turns_of};
+ghost use Rattle.pg_seats.specs.pg_law_course.Course.{turns_of};
 
-use pg_ir::ThreadNo;
-use pg_run_trace::Turn;
+use pg_seats::pg_ir::ThreadNo;
+use pg_seats::pg_run_trace::Turn;
 use std::alloc::{AllocError, Global};
 
 /// The numbers of a thread's turns, ascending.

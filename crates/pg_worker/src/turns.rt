@@ -2,10 +2,10 @@
 
 ghost use Rattle.std.specs.Prelude.{◌≡◌, ℕ, ◌++◌, ◌<◌, ◌≤◌, Some, [], length, true, false, vec_capacity};
 ghost use Rattle.std.specs.List.{cons_option};
-ghost use Rattle.pg_num.specs.Places.{ByteRange, IsPlace};
-ghost use Rattle.pg_run_thread.specs.Step.{next};
-ghost use Rattle.pg_law_threads.specs.Effects.{or_old};
-ghost use Rattle.pg_law_course.specs.Prints.{number_printed};
+ghost use Rattle.pg_seats.specs.pg_num.Places.{ByteRange, IsPlace};
+ghost use Rattle.pg_seats.specs.pg_run_thread.Step.{next};
+ghost use Rattle.pg_seats.specs.pg_law_threads.Effects.{or_old};
+ghost use Rattle.pg_seats.specs.pg_law_course.Prints.{number_printed};
 ghost use Rattle.pg_seats.specs.Views.{may_advance};
 ghost use Rattle.pg_worker.specs.Standing.{HasKept, HasToWait, IsAnswered, IsAt, IsDue, TookTurn, WentOn, place_stored, run_in, stands_at_event, table_in, value_left, waits_there};
 ghost use Rattle.pg_worker.specs.Pages.{is_marked, page_of};
@@ -13,9 +13,9 @@ ghost use Rattle.pg_worker.specs.Pages.{is_marked, page_of};
 use crate::awaits::await_turn;
 use crate::shared::Shared;
 use crate::worker::Worker;
-use pg_ir::Request;
-use pg_num::Place as Range;
-use pg_run_thread::Action;
+use pg_seats::pg_ir::Request;
+use pg_seats::pg_num::Place as Range;
+use pg_seats::pg_run_thread::Action;
 use pg_seats::turns;
 
 /// The number that an action prints, if it prints one.
@@ -64,7 +64,7 @@ impl Worker {
         ensures early { result ≡ false → HasToWait self.old self.new }
     {
         let turn = self.next_turn();
-        await_turn(&shared.words, turn);
+        await_turn(shared, turn);
         let found = turns::look(&shared.words, &mut self.seat);
         found == turn
     }

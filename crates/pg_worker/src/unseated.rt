@@ -1,7 +1,7 @@
 //! Threads before they have a seat, so that all memory of a run can be taken before it begins.
 
 ghost use Rattle.std.specs.Prelude.{◌≡◌, ◌<◌, [], IfOk};
-ghost use Rattle.pg_num.specs.declared.limits.TheConstants.{THREAD_LIMIT};
+ghost use Rattle.pg_seats.specs.pg_num.declared.limits.TheConstants.{THREAD_LIMIT};
 ghost use Rattle.pg_seats.specs.Plan.{IsEnforced};
 ghost use Rattle.pg_worker.specs.Standing.{IsAt, first_view, run_in, table_in};
 ghost use Rattle.pg_worker.specs.Unseated.{IsUnseated};
@@ -11,11 +11,11 @@ use crate::shared::Shared;
 use crate::starts::start_of;
 use crate::turn_lists::turns_of;
 use crate::worker::Worker;
-use pg_ir::{Program, ThreadNo};
-use pg_num::limits::GUIDED_STEP_LIMIT;
-use pg_run_thread::Fiber;
-use pg_run_trace::Schedule;
 use pg_seats::Place;
+use pg_seats::pg_ir::{Program, ThreadNo};
+use pg_seats::pg_num::limits::GUIDED_STEP_LIMIT;
+use pg_seats::pg_run_thread::Fiber;
+use pg_seats::pg_run_trace::Schedule;
 use std::alloc::{AllocError, Global};
 
 /// A thread before its first step, which has no seat yet: its own state, the numbers of its turns, room for the numbers that it

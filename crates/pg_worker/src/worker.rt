@@ -1,16 +1,16 @@
 //! A worker, and why it pauses.
 
 ghost use Rattle.std.specs.Prelude.{◌≡◌, ◌<◌, [], Some, length, max};
-ghost use Rattle.pg_run_thread.specs.States.{IsOf};
+ghost use Rattle.pg_seats.specs.pg_run_thread.States.{IsOf};
 ghost use Rattle.pg_seats.specs.Views.{seen_of};
 ghost use Rattle.pg_seats.specs.declared.run.View.TheVariants.{Note};
 ghost use Rattle.pg_worker.specs.Standing.{IsAt, end_by, looks_of, next_turn_of, noted_in, run_in, table_in};
 
 use crate::pages::Pages;
 use crate::shared::Shared;
-use pg_ir::{Program, ThreadNo};
-use pg_run::GuidedEnd;
-use pg_run_thread::{Action, Fiber};
+use pg_seats::pg_ir::{Program, ThreadNo};
+use pg_seats::pg_run::GuidedEnd;
+use pg_seats::pg_run_thread::{Action, Fiber};
 use pg_seats::{Place, seats};
 
 /// Runs one thread of a program along a schedule: the thread's seat at the shared words, its own state, how many steps it may still

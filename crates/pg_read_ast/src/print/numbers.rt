@@ -2,7 +2,7 @@
 
 ghost use Rattle.std.specs.Prelude.{◌≡◌, ◌++◌, ◌+◌, ◌-◌, ◌≤◌, ◌<◌, OnOk, max, ◌||◌, ◌&&◌, ◌==◌, nat_lt, IfOk, true, length, take, replicate, get_or};
 ghost use Rattle.std.specs.List.{list_all};
-ghost use Rattle.pg_num.specs.Decimal.{is_digit, are_digits, natural_of};
+ghost use Rattle.pg_read_lex.specs.pg_num.Decimal.{is_digit, are_digits, natural_of};
 ghost use Rattle.pg_read_ast.specs.Numbers.{digits_text, decimal_text, after_name};
 ghost use Rattle.pg_read_ast.specs.Digits.{IsPlain, padded};
 
@@ -19,7 +19,7 @@ pub struct NextNumber {
 
 impl Model for NextNumber {
     ghost use Rattle.std.specs.Prelude.{ℕ};
-    ghost use Rattle.pg_num.specs.Decimal.{natural_of};
+    ghost use Rattle.pg_read_lex.specs.pg_num.Decimal.{natural_of};
     ghost use Rattle.pg_read_ast.specs.Digits.{IsPlain};
 
     ghost Value = { ℕ };

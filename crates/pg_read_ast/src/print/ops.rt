@@ -18,7 +18,7 @@ use crate::print::values::{
 };
 use crate::types::TypeNode;
 use crate::values::{TypedVal, ValNode};
-use pg_num::Compare;
+use pg_read_lex::pg_num::Compare;
 use std::alloc::AllocError;
 
 fn binary_name(op: BinaryOp) -> &'static str

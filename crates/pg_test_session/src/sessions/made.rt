@@ -57,6 +57,7 @@ impl Runner for Sums {
     ghost runs = { λ _. record {
       recorded = λ _ _ _ _. Unit {0};
       refused = λ _ _ _. Unit {0};
+      untested = λ _. ⊥;
       along = λ _ _ _ _. Unit {0};
       given = λ _. ⊥;
     } };

@@ -4,7 +4,7 @@ use Rattle.pg_check_types.specs.NumberedTypes.{named_types}
 use Rattle.pg_check_rules.specs.ValueConditions.{Scope}
 use Rattle.pg_check_rules.specs.Earliest.{IsFirstIn}
 use Rattle.pg_check_rules.specs.Conditions.{all_of}
-use Rattle.pg_check_values.specs.Scopes.{IsLineScope}
+use Rattle.pg_check_calls.specs.pg_check_values.Scopes.{IsLineScope}
 use Rattle.pg_check_bodies.specs.BodyParts.{block_refused}
 use Rattle.pg_check_bodies.proofs.body_lines.blocks_refusal.Given as goal
 

@@ -6,7 +6,7 @@ use Rattle.pg_check_rules.specs.Earliest.{earliest}
 use Rattle.pg_check_rules.specs.TypeConditions.{unmet}
 use Rattle.pg_check_rules.specs.Written.{op_demands}
 use Rattle.pg_check_rules.specs.CallConditions.{call_demands}
-use Rattle.pg_check_values.proofs.JoinedRows.{two_rows}
+use Rattle.pg_check_calls.proofs.of_pg_check_values.JoinedRows.{two_rows}
 use Rattle.pg_check_bodies.proofs.line_parts.unmet_demands.Goals as goal
 
 pub returns : goal.returns

@@ -9,14 +9,14 @@ use Rattle.pg_check_constants.proofs.indices.scales_within.Goals as goal
 pub loop-index-preserved : goal.loop-index-preserved
 loop-index-preserved c =
     let table = table_of c.args.types.now in
-    let next = denoted table c.in_ok-step.step.next in
+    let next = denoted table c.step-step.result.next in
     record {
-      within = c.in_ok-step.ensures.within;
-      fits = written_fits next _ c.in_ok-step.ensures.next (inner_fits (denoted table c.loop-index.current) _ c.loop-index.invariant.fits);
+      within = c.step-step.ensures.within;
+      fits = written_fits next _ c.step-step.ensures.next (inner_fits (denoted table c.loop-index.current) _ c.loop-index.invariant.fits);
       whole =
           ap (λ ss. ss ++ scales_within next (drop (c.loop-index.index-index + 1) c.args.indices.now)) c.in_ok-push.ensures.items
-          ∙ scale_step (denoted table c.loop-index.current) next c.loop-index.scales.items c.in_ok-step.step.scale c.args.indices.now c.loop-index.index-index _ _
-          c.loop-index-test.true refl c.in_ok-step.ensures.scale c.in_ok-step.ensures.next
+          ∙ scale_step (denoted table c.loop-index.current) next c.loop-index.scales.items c.step-step.result.scale c.args.indices.now c.loop-index.index-index _ _
+          c.loop-index-test.true refl c.step-step.ensures.scale c.step-step.ensures.next
           ∙ c.loop-index.invariant.whole;
     }
 

@@ -11,5 +11,5 @@ pub returns : goal.returns
 returns c =
     c.kept.ensures
     ∙ ap ended c.granules_for.ensures.granules
-    ∙ ap (λ s. ended (granules_for s)) c.layout_of_number.ensures.size
+    ∙ ap (λ s. ended (granules_for s)) c.layout_of_number.ensures.layout.size
     ∙ capped_granules (size_of (type_at (table_of c.args.types.now) c.args.number))

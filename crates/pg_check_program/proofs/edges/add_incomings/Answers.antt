@@ -6,9 +6,11 @@ use Rattle.pg_check_program.proofs.BoundedNumbers.{one_fits}
 use Rattle.pg_check_rules.proofs.MappedLists.{mapped_more, mapped_all}
 use Rattle.pg_check_program.proofs.edges.add_incomings.Goals as goal
 
-pub incoming_at-requires-clause-value : goal.incoming_at-requires-clause-value
-incoming_at-requires-clause-value c =
-    one_fits (IncomingIsSmall c.args.scope.now) incoming_of c.args.all.now c.loop-incoming.incoming-index c.incoming-item.result _ c.requires.values c.loop-incoming-test.true c.incoming-item.is
+pub incoming_at-requires : goal.incoming_at-requires
+incoming_at-requires c = record {
+  value =
+      one_fits (IncomingIsSmall c.args.scope.now) incoming_of c.args.all.now c.loop-incoming.incoming-index c.incoming-item.result _ c.requires.values c.loop-incoming-test.true c.incoming-item.is;
+}
 
 pub loop-incoming-preserved : goal.loop-incoming-preserved
 loop-incoming-preserved c = λ names.

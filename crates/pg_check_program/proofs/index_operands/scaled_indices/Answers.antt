@@ -7,10 +7,12 @@ use Rattle.pg_check_program.specs.ScopeSizes.{TypedIsSmall}
 use Rattle.pg_check_program.proofs.BoundedNumbers.{one_fits}
 use Rattle.pg_check_program.proofs.index_operands.scaled_indices.Goals as goal
 
-pub index_at-requires-clause-value : goal.index_at-requires-clause-value
-index_at-requires-clause-value c =
+pub index_at-requires : goal.index_at-requires
+index_at-requires c =
     let l : c.loop-place.place < length c.args.indices.now = omega (arith, c.requires.lengths, c.loop-place-test.true) in
-    one_fits (TypedIsSmall c.args.scope.now) typed_of c.args.indices.now c.loop-place.place c.index-indices-place.result _ c.requires.values l c.index-indices-place.is
+    record {
+      value = one_fits (TypedIsSmall c.args.scope.now) typed_of c.args.indices.now c.loop-place.place c.index-indices-place.result _ c.requires.values l c.index-indices-place.is;
+    }
 
 pub loop-place-preserved : goal.loop-place-preserved
 loop-place-preserved c = λ names.

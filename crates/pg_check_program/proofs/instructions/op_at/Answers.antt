@@ -87,9 +87,9 @@ pub compare_at-requires-clause-right : goal.compare_at-requires-clause-right
 unfolding OpFits
 compare_at-requires-clause-right c = (fits_as (types_in c.args.scope.now) c.in-Icmp.is c.requires.fits).1
 
-pub cast_at-requires-clause-value : goal.cast_at-requires-clause-value
+pub cast_at-requires : goal.cast_at-requires
 unfolding OpFits
-cast_at-requires-clause-value c = fits_as (types_in c.args.scope.now) c.in-Cast.is c.requires.fits
+cast_at-requires c = record { value = fits_as (types_in c.args.scope.now) c.in-Cast.is c.requires.fits }
 
 pub select_at-requires-clause-cond : goal.select_at-requires-clause-cond
 unfolding OpFits
@@ -103,25 +103,25 @@ pub select_at-requires-clause-second : goal.select_at-requires-clause-second
 unfolding OpFits
 select_at-requires-clause-second c = (fits_as (types_in c.args.scope.now) c.in-Select.is c.requires.fits).2
 
-pub conditional_branch_at-requires-clause-cond : goal.conditional_branch_at-requires-clause-cond
+pub conditional_branch_at-requires : goal.conditional_branch_at-requires
 unfolding OpFits
-conditional_branch_at-requires-clause-cond c = fits_as (types_in c.args.scope.now) c.in-CondBr.is c.requires.fits
+conditional_branch_at-requires c = record { cond = fits_as (types_in c.args.scope.now) c.in-CondBr.is c.requires.fits }
 
-pub switch_at-requires-clause-value : goal.switch_at-requires-clause-value
+pub switch_at-requires : goal.switch_at-requires
 unfolding OpFits
-switch_at-requires-clause-value c = fits_as (types_in c.args.scope.now) c.in-Switch.is c.requires.fits
+switch_at-requires c = record { value = fits_as (types_in c.args.scope.now) c.in-Switch.is c.requires.fits }
 
-pub return_at-requires-clause-value : goal.return_at-requires-clause-value
+pub return_at-requires : goal.return_at-requires
 unfolding OpFits
-return_at-requires-clause-value c = fits_as (types_in c.args.scope.now) c.in-Ret.is c.requires.fits
+return_at-requires c = record { value = fits_as (types_in c.args.scope.now) c.in-Ret.is c.requires.fits }
 
-pub alloca_at-requires-clause-ty : goal.alloca_at-requires-clause-ty
+pub alloca_at-requires : goal.alloca_at-requires
 unfolding OpFits
-alloca_at-requires-clause-ty c = fits_as (types_in c.args.scope.now) c.in-Alloca.is c.requires.fits
+alloca_at-requires c = record { ty = fits_as (types_in c.args.scope.now) c.in-Alloca.is c.requires.fits }
 
-pub load_at-requires-clause-pointer : goal.load_at-requires-clause-pointer
+pub load_at-requires : goal.load_at-requires
 unfolding OpFits
-load_at-requires-clause-pointer c = fits_as (types_in c.args.scope.now) c.in-Load.is c.requires.fits
+load_at-requires c = record { pointer = fits_as (types_in c.args.scope.now) c.in-Load.is c.requires.fits }
 
 pub store_at-requires-clause-value : goal.store_at-requires-clause-value
 unfolding OpFits

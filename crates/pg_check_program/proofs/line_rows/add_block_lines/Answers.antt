@@ -8,11 +8,14 @@ use Rattle.pg_check_program.specs.ScopeSizes.{types_in}
 use Rattle.pg_check_program.proofs.BoundedNumbers.{one_fits}
 use Rattle.pg_check_program.proofs.line_rows.add_block_lines.Goals as goal
 
-pub add_lines-requires-clause-fits : goal.add_lines-requires-clause-fits
-add_lines-requires-clause-fits c =
+pub add_lines-requires : goal.add_lines-requires
+add_lines-requires c =
     let types = types_in c.args.scope.now in
-    subst (λ (ls : List LineNode). Each (LineFits types) (map line_of ls)) (sym c.as_slice-lines.ensures.value)
-    (one_fits (BlockFits types) block_of c.args.blocks.now c.loop-block.block-index c.block-item.result _ c.requires.fits c.loop-block-test.true c.block-item.is)
+    record {
+      fits =
+          subst (λ (ls : List LineNode). Each (LineFits types) (map line_of ls)) (sym c.as_slice-lines.ensures.value)
+          (one_fits (BlockFits types) block_of c.args.blocks.now c.loop-block.block-index c.block-item.result _ c.requires.fits c.loop-block-test.true c.block-item.is);
+    }
 
 pub loop-block-preserved : goal.loop-block-preserved
 loop-block-preserved c = record {

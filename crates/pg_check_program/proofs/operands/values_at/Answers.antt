@@ -7,9 +7,10 @@ use Rattle.pg_check_program.proofs.BoundedNumbers.{one_fits}
 use Rattle.pg_check_rules.proofs.MappedLists.{mapped_more, mapped_all}
 use Rattle.pg_check_program.proofs.operands.values_at.Goals as goal
 
-pub typed_value-requires-clause-value : goal.typed_value-requires-clause-value
-typed_value-requires-clause-value c =
-    one_fits (TypedIsSmall c.args.scope.now) typed_of c.args.values.now c.loop-value.value-index c.value-item.result _ c.requires.values c.loop-value-test.true c.value-item.is
+pub typed_value-requires : goal.typed_value-requires
+typed_value-requires c = record {
+  value = one_fits (TypedIsSmall c.args.scope.now) typed_of c.args.values.now c.loop-value.value-index c.value-item.result _ c.requires.values c.loop-value-test.true c.value-item.is;
+}
 
 pub loop-value-preserved : goal.loop-value-preserved
 loop-value-preserved c = λ names.

@@ -1,6 +1,6 @@
 use Rattle.std.proofs.Common.{◌≡◌, List, refl}
 use Rattle.std.proofs.lemmas.List.{append-nil}
-use Rattle.pg_read_lex.specs.declared.token.Span.{Span}
+use Rattle.pg_read_ast.specs.pg_read_lex.declared.token.Span.{Span}
 use Rattle.pg_check_rules.specs.declared.fault.CheckKind.{CheckKind}
 use Rattle.pg_check_rules.specs.declared.fault.CheckKind.TheVariants.{UnknownName, Doubled, WrongType}
 use Rattle.pg_check_rules.specs.Earliest.{only, joined, names_and_types}

@@ -1,5 +1,5 @@
 use Rattle.pg_check_types.proofs.Capping.{no_fields_layout}
 use Rattle.pg_check_types.proofs.measures.no_fields_layout.Goals as goal
 
-pub returns : goal.returns
-returns c = no_fields_layout _ c.empty_layout.ensures.size c.empty_layout.ensures.fields_end c.empty_layout.ensures.alignment
+pub returns-clause-layout : goal.returns-clause-layout
+returns-clause-layout c = no_fields_layout _ c.empty_layout.ensures.size c.empty_layout.ensures.fields_end c.empty_layout.ensures.alignment c.empty_layout.ensures.fields

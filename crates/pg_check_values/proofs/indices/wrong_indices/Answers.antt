@@ -2,7 +2,6 @@ use Rattle.std.proofs.Common.{length, ap, ◌∙◌}
 use Rattle.pg_read_ast.specs.Views.{ty_of}
 use Rattle.pg_check_types.specs.Resolved.{resolved}
 use Rattle.pg_check_types.specs.NumberedTypes.{named_types}
-use Rattle.pg_check_types.proofs.Resolutions.{if_ok}
 use Rattle.pg_check_values.proofs.IndexSteps.{indices_found, number_count}
 use Rattle.pg_check_values.proofs.indices.wrong_indices.Goals as goal
 
@@ -13,9 +12,7 @@ wrong_steps-requires-clause-same c =
 pub returns : goal.returns
 returns c = record {
   place =
-      if_ok c.wrong_steps.result
-      (λ o h. indices_found (named_types c.args.types.now) (ty_of c.args.ty.now) c.args.indices.now _ _ o h
+      indices_found (named_types c.args.types.now) (ty_of c.args.ty.now) c.args.indices.now _ _ c.wrong_steps.result c.wrong_steps.ensures
       (c.as_slice.ensures.value ∙ c.in_ok-chosen.ensures.numbers)
-      (c.in_ok-number.ensures.value ∙ ap (λ k. resolved (named_types k) (ty_of c.args.ty.now)) c.new-known.ensures))
-      c.wrong_steps.ensures;
+      (c.in_ok-number.ensures.value ∙ ap (λ k. resolved (named_types k) (ty_of c.args.ty.now)) c.new-known.ensures);
 }

@@ -8,12 +8,12 @@ pub loop-place-preserved : goal.loop-place-preserved
 loop-place-preserved c =
     let table = table_of c.args.types.now in
     record {
-      within = c.in_ok-step.ensures.within;
+      within = c.step-step.ensures.within;
       whole =
-          step_found (denoted table c.loop-place.current) (denoted table c.in_ok-step.step.next) c.args.chosen.now c.args.indices.now c.loop-place.place _ _ c.index-indices-place.result
+          step_found (denoted table c.loop-place.current) (denoted table c.step-step.result.next) c.args.chosen.now c.args.indices.now c.loop-place.place _ _ c.index-indices-place.result
           c.index-indices-place.result
-          c.loop-place.found c.in_ok-step.step.place c.earlier-found.result _
-          c.requires.same c.loop-place-test.true refl c.index-indices-place.is c.in_ok-step.ensures.next c.in_ok-step.ensures.place c.earlier-found.ensures c.loop-place.invariant.whole;
+          c.loop-place.found c.step-step.result.place c.earlier-found.result _
+          c.requires.same c.loop-place-test.true refl c.index-indices-place.is c.step-step.ensures.next c.step-step.ensures.place c.earlier-found.ensures c.loop-place.invariant.whole;
     }
 
 pub returns : goal.returns

@@ -1,5 +1,5 @@
-use Rattle.pg_run_trace.specs.Races.{schedule_of}
-use Rattle.pg_run.specs.Rotation.{rotation_of}
+use Rattle.pg_session_book.specs.pg_run_trace.Races.{schedule_of}
+use Rattle.pg_session_book.specs.pg_run.Rotation.{rotation_of}
 use Rattle.pg_commands.proofs.GuidedTexts.{all_turns, guided_end}
 use Rattle.pg_commands.proofs.laws.the_guided_run_of_once_exits.Goals as goal
 

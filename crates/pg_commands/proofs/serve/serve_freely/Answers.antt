@@ -1,7 +1,8 @@
 use Rattle.std.proofs.Common.{ap, subst, sym, ◌∙◌}
 use Rattle.pg_ir.specs.Program.{NumberedProgram}
-use Rattle.pg_session.specs.Progress.{Stands}
-use Rattle.pg_session_runner.specs.Runs.{Way, freely, runs_by}
+use Rattle.pg_session_book.specs.pg_session.Progress.{Stands}
+use Rattle.pg_session_book.specs.Runs.{Way, freely, runs_by}
+use Rattle.pg_commands.specs.Commands.{CrewsMake}
 use Rattle.pg_commands.specs.Sessions.{rounds_told}
 use Rattle.pg_commands.proofs.SessionsEnd.{done_rounds, ends_of}
 use Rattle.pg_commands.proofs.serve.serve_freely.Goals as goal
@@ -13,8 +14,11 @@ serve-ended-requires-clause-stands g c = λ _ _.
 
 pub returns : goal.returns
 returns g c =
-    ends_of (rounds_told _) c.new-runner.result.subject _ _ _ _ _ _ c.new-runner.ensures.program c.new-runner.ensures.way (record {
-      done = done_rounds c.new-runner.result.subject _ _ _ _ _ _ _ _ (c.new-runner.ensures.rounds ∙ ap g.G.FreeCrew.rounds c.replace.ensures.value) c.into_crew.ensures c.serve-ended.ensures.done;
+    ends_of (CrewsMake (rounds_told _) _) c.new-runner.result.subject _ _ _ _ _ _ c.new-runner.ensures.program c.new-runner.ensures.way (record {
+      done = done_rounds c.new-runner.result.subject _ _ _ _ _ _ _ _ _
+          (record { first = c.new-runner.ensures.rounds ∙ ap g.G.FreeCrew.rounds c.replace-recorders.ensures.value; last = c.into_crews-crews.ensures.rounds })
+          (record { first = c.new-runner.ensures.turns ∙ ap g.C.Crew.turns c.replace-workers.ensures.value; last = c.into_crews-crews.ensures.turns })
+          c.serve-ended.ensures.done;
       input_limit = c.serve-ended.ensures.input_limit;
       read_fault = c.serve-ended.ensures.read_fault;
       write_fault = c.serve-ended.ensures.write_fault_cuts;

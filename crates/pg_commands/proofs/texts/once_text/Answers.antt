@@ -1,5 +1,5 @@
 use Rattle.std.proofs.Common.{◌≡◌, ◌++◌, ◌∙◌, sym, rules}
-use Rattle.pg_run.specs.Rotation.{rotation_of}
+use Rattle.pg_session_book.specs.pg_run.Rotation.{rotation_of}
 use Rattle.pg_commands.specs.EndLines.{end_line}
 use Rattle.pg_commands.proofs.GuidedTexts.{once_is}
 use Rattle.pg_commands.proofs.texts.once_text.Goals as goal

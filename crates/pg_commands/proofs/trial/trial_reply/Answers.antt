@@ -11,5 +11,6 @@ returns-in_ok-trial_text-in-Accepted-clause-reply g c =
     record {
       program = p;
       accepted = subst (λ t. IsAccepted t p) (c.as_bytes.ensures.value ∙ c.trial_program.ensures) loaded.0;
-      tells = c.in_ok-trial_text-in-Accepted.ensures;
+      tells = c.in_ok-trial_text-in-Accepted.ensures.0;
+      makes = c.in_ok-trial_text-in-Accepted.ensures.1;
     }

@@ -1,6 +1,6 @@
 use Rattle.std.proofs.Common.{sym, ◌∙◌}
 use Rattle.pg_run.specs.FullGuided.{full_guided_of}
-use Rattle.pg_law_effects.proofs.FullGuidedRun.{full_is}
+use Rattle.pg_law_runs.proofs.of_pg_law_effects.FullGuidedRun.{full_is}
 use Rattle.pg_law_runs.proofs.PermittedRuns as law
 use Rattle.pg_law_order.proofs.guided.the_full_guided_run_ends_as_the_ordered_one.Goals as goal
 

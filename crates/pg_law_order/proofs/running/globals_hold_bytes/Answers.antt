@@ -1,5 +1,5 @@
 use Rattle.std.proofs.Common.{◌≡◌, ℕ, ◌+◌, ◌-◌, ◌^◌, ◌<◌, arith, drop, slice_index, subst, sym}
-use Rattle.pg_law_effects.specs.Reached.{HoldBytes}
+use Rattle.pg_law_runs.specs.pg_law_effects.Reached.{HoldBytes}
 use Rattle.pg_law_order.proofs.GlobalBytes.{hold_more}
 use Rattle.pg_law_order.proofs.running.globals_hold_bytes.Goals as goal
 

@@ -1,5 +1,5 @@
 use Rattle.std.proofs.Common.{◌≤◌, drop, length}
-use Rattle.pg_law_effects.specs.Reached.{HoldBytes}
+use Rattle.pg_law_runs.specs.pg_law_effects.Reached.{HoldBytes}
 use Rattle.pg_law_order.proofs.running.globals_hold_bytes.Given as goal
 
 abbrev pub invariant-loop-left : goal.invariant-loop-left

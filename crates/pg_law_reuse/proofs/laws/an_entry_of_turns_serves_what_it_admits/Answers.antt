@@ -1,5 +1,5 @@
 use Rattle.pg_law_reuse.proofs.EntryRecordings.{turns_good}
-use Rattle.pg_law_order.proofs.GoodRunsServe.{serves}
+use Rattle.pg_session_entry.proofs.of_pg_law_order.GoodRunsServe.{serves}
 use Rattle.pg_law_reuse.proofs.laws.an_entry_of_turns_serves_what_it_admits.Goals as goal
 
 pub returns-clause-good : goal.returns-clause-good

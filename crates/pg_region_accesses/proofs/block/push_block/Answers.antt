@@ -1,7 +1,7 @@
 use Rattle.std.proofs.Common.{◌≡◌, ◌+◌, ℕ, Bool, true, false, List, cond, sym, ◌∙◌, subst, arith}
-use Rattle.pg_ir.specs.declared.value.Scalar.{Scalar}
-use Rattle.pg_ir.specs.Program.{types_of, function_of}
-use Rattle.pg_ir.specs.Edges.{instrs_of}
+use Rattle.pg_region_paths.specs.pg_ir.declared.value.Scalar.{Scalar}
+use Rattle.pg_region_paths.specs.pg_ir.Program.{types_of, function_of}
+use Rattle.pg_region_paths.specs.pg_ir.Edges.{instrs_of}
 use Rattle.pg_region_paths.specs.RootPaths.{path_in, set_in, count_in, is_in}
 use Rattle.pg_region_paths.specs.Registers.{is_register, has_pointer, path_by}
 use Rattle.pg_region_accesses.specs.Accesses.{block_accesses, summary_of}

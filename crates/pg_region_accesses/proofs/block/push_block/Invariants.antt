@@ -1,6 +1,6 @@
 use Rattle.std.proofs.Common.{◌≡◌, ◌+◌, ℕ, drop, take, reverse, []}
-use Rattle.pg_ir.specs.Program.{types_of, function_of, first_of}
-use Rattle.pg_ir.specs.Edges.{instrs_of}
+use Rattle.pg_region_paths.specs.pg_ir.Program.{types_of, function_of, first_of}
+use Rattle.pg_region_paths.specs.pg_ir.Edges.{instrs_of}
 use Rattle.pg_region_paths.specs.Registers.{register_path}
 use Rattle.pg_region_paths.specs.RootPaths.{path_in, set_in, count_in}
 use Rattle.pg_region_accesses.specs.Accesses.{accesses_from, summary_of}

@@ -1,6 +1,6 @@
 use Rattle.std.proofs.Common.{◌≡◌, ◌<◌, ◌≤◌, ◌^◌, ℕ, length, Some}
 use Rattle.std.specs.Prelude.{slice_get}
-use Rattle.pg_ir.specs.declared.instr.Instr.{Instr}
+use Rattle.pg_region_paths.specs.pg_ir.declared.instr.Instr.{Instr}
 use Rattle.pg_region_accesses.proofs.count.block_count.Given as goal
 
 abbrev pub invariant-loop-i : goal.invariant-loop-i

@@ -1,5 +1,5 @@
 use Rattle.std.proofs.Common.{◌+◌, ◌||◌, length, ap, ◌∙◌, arith}
-use Rattle.pg_ir.specs.Edges.{instrs_of}
+use Rattle.pg_region_paths.specs.pg_ir.Edges.{instrs_of}
 use Rattle.pg_region_accesses.specs.Tables.{in_table}
 use Rattle.pg_region_accesses.proofs.BlockInstructions.{instr_at, result_small}
 use Rattle.pg_region_accesses.proofs.SetTables.{set_more, sets_all}

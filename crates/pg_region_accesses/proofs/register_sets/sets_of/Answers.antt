@@ -1,6 +1,6 @@
 use Rattle.std.proofs.Common.{List, Bool, false, length, ap, ◌∙◌}
 use Rattle.std.proofs.lemmas.List.{length-replicate}
-use Rattle.pg_num.specs.declared.limits.TheConstants.{FUNCTION_REGISTER_LIMIT}
+use Rattle.pg_region_paths.specs.pg_num.declared.limits.TheConstants.{FUNCTION_REGISTER_LIMIT}
 use Rattle.pg_region_accesses.specs.Tables.{in_table}
 use Rattle.pg_region_accesses.proofs.SetTables.{nothing_in}
 use Rattle.pg_region_accesses.proofs.register_sets.sets_of.Goals as goal

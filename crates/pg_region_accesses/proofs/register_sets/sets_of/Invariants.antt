@@ -1,5 +1,5 @@
 use Rattle.std.proofs.Common.{◌≡◌, ℕ, length, take}
-use Rattle.pg_num.specs.declared.limits.TheConstants.{FUNCTION_REGISTER_LIMIT}
+use Rattle.pg_region_paths.specs.pg_num.declared.limits.TheConstants.{FUNCTION_REGISTER_LIMIT}
 use Rattle.pg_region_accesses.specs.Accesses.{sets}
 use Rattle.pg_region_accesses.specs.Tables.{in_table}
 use Rattle.pg_region_accesses.proofs.register_sets.sets_of.Given as goal

@@ -1,5 +1,5 @@
 use Rattle.std.proofs.Common.{◌≡◌, ◌+◌, ◌*◌, ◌≤◌, length, sum}
-use Rattle.pg_num.specs.declared.limits.TheConstants.{GUIDED_STEP_LIMIT, THREAD_LIMIT}
+use Rattle.pg_run_trace.specs.pg_num.declared.limits.TheConstants.{GUIDED_STEP_LIMIT, THREAD_LIMIT}
 use Rattle.pg_run.specs.Machine.{IsMachine}
 use Rattle.pg_run.specs.Guided.{guided_of}
 use Rattle.pg_run.proofs.WithSteps.{AlongWith}

@@ -1,4 +1,4 @@
-use Rattle.pg_num.proofs.Granules.{IsPlace-in_granule, IsPlace-in_memory}
+use Rattle.pg_ir.proofs.of_pg_num.Granules.{IsPlace-in_granule, IsPlace-in_memory}
 use Rattle.pg_run_memory.proofs.Places.{read_is_part, written_is_put}
 use Rattle.pg_run_memory.proofs.laws.an_access_is_of_one_granule.Goals as goal
 

@@ -1,5 +1,5 @@
 use Rattle.std.proofs.Common.{refl}
-use Rattle.pg_run.specs.declared.outcome.Outcome.TheVariants as outcomes
+use Rattle.pg_go.specs.pg_run.declared.outcome.Outcome.TheVariants as outcomes
 use Rattle.pg_law_reuse.proofs.EntryParts.{recorded_of}
 use Rattle.pg_session_runner.proofs.RecordedWays.{is_recording}
 use Rattle.pg_session_runner.proofs.laws.a_kept_entry_serves_what_it_admits.Goals as goal

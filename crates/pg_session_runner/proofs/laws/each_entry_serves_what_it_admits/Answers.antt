@@ -1,5 +1,5 @@
 use Rattle.std.proofs.Common.{subst}
-use Rattle.pg_law_runs.specs.Cuts.{CanRun}
+use Rattle.pg_law_reuse.specs.pg_law_runs.Cuts.{CanRun}
 use Rattle.pg_session.specs.Sessions.{of_recording, of_turns}
 use Rattle.pg_session_runner.proofs.laws.each_entry_serves_what_it_admits.Goals as goal
 

@@ -11,7 +11,7 @@ pub returns-clause-gives : goal.returns-clause-gives
 returns-clause-gives g c =
     let r = c.in_ok-recording.recording in
     let made = c.in_ok-made.ensures in
-    c.kept_of.ensures c.args.p.now freely c.args.input.now r.trace.steps made.0 r.end c.requires.can_run made.1 made.3
+    c.kept_of.ensures.gives c.args.p.now freely c.args.input.now r.trace.steps made.0 r.end c.requires.can_run made.1 made.3
 
 pub returns-clause-rounds : goal.returns-clause-rounds
 returns-clause-rounds g c = rose_one _ _ c.in_ok-recording.ensures.never_falls c.in_ok-recording.ensures.counts

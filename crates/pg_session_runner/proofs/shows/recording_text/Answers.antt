@@ -17,3 +17,8 @@ entry_text-requires-clause-exact c =
     let k = subst (ComesOfRecording (runs_by h.0 h.1) h.2) c.in-Kept.is h.3 in
     let set = k.is_entry.serves.exact in
     all_below _ set.0 _ set.1 set.2
+
+pub unreachable-requires : goal.unreachable-requires
+unreachable-requires c =
+    let h = c.requires in
+    h.4 (subst (ComesOfRecording (runs_by h.0 h.1) h.2) c.in-Untested.is h.3)

@@ -2,7 +2,7 @@ use Rattle.std.proofs.Common.{◌++◌}
 use Rattle.std.specs.List.{list_any}
 use Rattle.pg_run_trace.specs.Steps.{access_of}
 use Rattle.pg_slice_rules.specs.Rules.{Footprint, footprints_conflict, footprint_of, footprints_in}
-use Rattle.pg_slice_replay.specs.Landmarks.{Landmark}
+use Rattle.pg_slice_walk.specs.pg_slice_replay.Landmarks.{Landmark}
 use Rattle.pg_slice.proofs.RegionBounds.{region_meets}
 use Rattle.pg_slice.proofs.footprints.one_meets.Goals as goal
 

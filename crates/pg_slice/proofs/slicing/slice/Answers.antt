@@ -6,12 +6,12 @@ use Rattle.pg_run_trace.specs.declared.step.Step.{Step}
 use Rattle.pg_slice_rules.specs.Freeable.{Regions}
 use Rattle.pg_slice_decisions.specs.declared.steps.DecisionSet.{DecisionSet}
 use Rattle.pg_slice_decisions.specs.Steps.{AreOf, taken_by}
-use Rattle.pg_slice_replay.specs.declared.run.ReferenceRun.{ReferenceRun}
-use Rattle.pg_slice_passes.specs.Given.{HasLandmarks, reference_of}
-use Rattle.pg_slice_passes.proofs.SliceOf.{AreBelow, goes_on, slice_at}
-use Rattle.pg_slice_back.specs.declared.registers.Counts.{Counts}
-use Rattle.pg_slice_back.specs.Counted.{AreCounted}
-use Rattle.pg_law_least.specs.Keeps.{ExtentsKeep}
+use Rattle.pg_slice_walk.specs.pg_slice_replay.declared.run.ReferenceRun.{ReferenceRun}
+use Rattle.pg_slice_walk.specs.pg_slice_passes.Given.{HasLandmarks, reference_of}
+use Rattle.pg_slice_walk.proofs.of_pg_slice_passes.SliceOf.{AreBelow, goes_on, slice_at}
+use Rattle.pg_slice_walk.specs.pg_slice_back.declared.registers.Counts.{Counts}
+use Rattle.pg_slice_walk.specs.pg_slice_back.Counted.{AreCounted}
+use Rattle.pg_slice_walk.specs.pg_law_least.Keeps.{ExtentsKeep}
 use Rattle.pg_slice_walk.specs.Chains.{Holds}
 use Rattle.pg_slice_walk.specs.Walks.{IsTold, Widens}
 use Rattle.pg_slice.proofs.slicing.slice.Goals as goal
@@ -33,29 +33,29 @@ found p xs r old new held inner counted counts same alike widens holds counts_ar
     } in
     widens.by regions gated input told e closed (below regions gated input marks keeps e closed)
 
-pub loop-d-init : goal.loop-d-init
-loop-d-init c = (
-  subst (λ n. AreOf n c.in_ok-d.d) c.len-steps.ensures c.in_ok-d.ensures.size,
+pub loop-decisions-init : goal.loop-decisions-init
+loop-decisions-init c = (
+  subst (λ n. AreOf n c.in_ok-decisions.decisions) c.len-steps.ensures c.in_ok-decisions.ensures.size,
   λ regions gated input marks keeps e closed.
-      λ y h. absurd (false≢true (sym (c.in_ok-d.ensures.none y) ∙ h)),
+      λ y h. absurd (false≢true (sym (c.in_ok-decisions.ensures.none y) ∙ h)),
 )
 
 pub take_found-requires-clause-size : goal.take_found-requires-clause-size
-take_found-requires-clause-size c = c.loop-d.invariant.0
+take_found-requires-clause-size c = c.loop-decisions.invariant.0
 
-pub loop-d-preserved : goal.loop-d-preserved
-loop-d-preserved c =
+pub loop-decisions-preserved : goal.loop-decisions-preserved
+loop-decisions-preserved c =
     let k = c.take_new.ensures in
     let p = c.args.run.now.p.now in
     let xs = c.args.run.now.t.now.steps in
     let r = c.args.run.now.r.now in
-    let below = found p xs r c.loop-d.d c.take_found.new.d c.in_ok-held.held.items c.as_slice-inner.result.now c.in_ok-counted.counted.items c.as_slice-counts.result.now
-    c.as_slice-inner.ensures.value c.as_slice-counts.ensures.value c.in_ok-take_found.ensures.widens (c.in_ok-held.ensures.holds p) c.in_ok-counted.ensures.counted c.loop-d.invariant.1 in
-    goes_on p xs r c.take_found.new.d c.take_new.new.d c.len-steps.result c.in_ok-passed.passed.missing.items c.as_slice-missing.result.now
+    let below = found p xs r c.loop-decisions.decisions c.take_found.new.decisions c.in_ok-held.held.items c.as_slice-inner.result.now c.in_ok-counted.counted.items c.as_slice-counts.result.now
+    c.as_slice-inner.ensures.value c.as_slice-counts.ensures.value c.in_ok-take_found.ensures.widens (c.in_ok-held.ensures.holds p) c.in_ok-counted.ensures.counted c.loop-decisions.invariant.1 in
+    goes_on p xs r c.take_found.new.decisions c.take_new.new.d c.len-steps.result c.in_ok-passed.passed.missing.items c.as_slice-missing.result.now
     c.len-steps.ensures c.as_slice-missing.ensures.value k.size k.only c.in_ok-passed.ensures.missing below
 
-pub loop-d-smaller : goal.loop-d-smaller
-loop-d-smaller c = let a = c.in_ok-take_found.ensures.left in let b = c.take_new.ensures.less c.if-not-take_new.false in omega (arith, a, b)
+pub loop-decisions-smaller : goal.loop-decisions-smaller
+loop-decisions-smaller c = let a = c.in_ok-take_found.ensures.left in let b = c.take_new.ensures.less c.if-not-take_new.false in omega (arith, a, b)
 
 pub returns-then-not-take_new : goal.returns-then-not-take_new
 returns-then-not-take_new c =
@@ -65,8 +65,8 @@ returns-then-not-take_new c =
     let xs = c.args.run.now.t.now.steps in
     let r = c.args.run.now.r.now in
     let passed = c.in_ok-passed.passed in
-    let below = found p xs r c.loop-d.d c.take_found.new.d c.in_ok-held.held.items c.as_slice-inner.result.now c.in_ok-counted.counted.items c.as_slice-counts.result.now
-    c.as_slice-inner.ensures.value c.as_slice-counts.ensures.value c.in_ok-take_found.ensures.widens (c.in_ok-held.ensures.holds p) c.in_ok-counted.ensures.counted c.loop-d.invariant.1 in
-    slice_at p xs r c.take_found.new.d c.take_new.new.d passed.precondition c.sliced.result c.len-steps.result passed.missing.items
+    let below = found p xs r c.loop-decisions.decisions c.take_found.new.decisions c.in_ok-held.held.items c.as_slice-inner.result.now c.in_ok-counted.counted.items c.as_slice-counts.result.now
+    c.as_slice-inner.ensures.value c.as_slice-counts.ensures.value c.in_ok-take_found.ensures.widens (c.in_ok-held.ensures.holds p) c.in_ok-counted.ensures.counted c.loop-decisions.invariant.1 in
+    slice_at p xs r c.take_found.new.decisions c.take_new.new.d passed.precondition c.sliced.result c.len-steps.result passed.missing.items
     c.as_slice-missing.result.now c.len-steps.ensures c.as_slice-missing.ensures.value (k.same c.if-not-take_new.true) s.same s.lists s.precondition k.size c.in_ok-passed.ensures.needed k.taken
     c.in_ok-passed.ensures.missing c.in_ok-passed.ensures.admits below

@@ -4,7 +4,7 @@ use Rattle.pg_slice.proofs.MoreDecisions.{widens_none, widens_then}
 use Rattle.pg_slice.proofs.spread.spread_along.Goals as goal
 
 pub loop-n-init : goal.loop-n-init
-loop-n-init c = (c.requires.size, c.requires.live, c.requires.settled, omega arith, widens_none c.args.run.now.r.now c.args.holders.now c.args.run.now.t.now.steps (taken_by c.args.d.now))
+loop-n-init c = (c.requires.size, c.requires.live, c.requires.settled, omega arith, widens_none c.args.run.now.r.now c.args.holders.now c.args.run.now.t.now.steps (taken_by c.args.decisions.now))
 
 pub loop-n-preserved : goal.loop-n-preserved
 loop-n-preserved c =
@@ -17,5 +17,5 @@ loop-n-preserved c =
       e.settled,
       omega (arith, a, b),
       widens_then c.args.run.now.r.now c.args.holders.now c.args.run.now.t.now.steps
-          (taken_by c.args.d.now) (taken_by c.loop-n.d) (taken_by c.spread_step.new.d) v.4 e.widens,
+          (taken_by c.args.decisions.now) (taken_by c.loop-n.decisions) (taken_by c.spread_step.new.decisions) v.4 e.widens,
     )

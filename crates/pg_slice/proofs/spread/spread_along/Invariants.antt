@@ -6,8 +6,8 @@ use Rattle.pg_slice.proofs.spread.spread_along.Given as goal
 
 abbrev pub invariant-loop-n : goal.invariant-loop-n
 invariant-loop-n l =
-    AreOf (length l.run.t.now.steps) l.d
-    × AreLive l.holders (taken_by l.d) l.s.live.items
-    × AreSettled l.holders (taken_by l.d) l.s.settled.items
-    × (left_by l.d ≤ left_by l.initial.d)
-    × Widens l.run.r.now l.holders l.run.t.now.steps (taken_by l.initial.d) (taken_by l.d)
+    AreOf (length l.run.t.now.steps) l.decisions
+    × AreLive l.holders (taken_by l.decisions) l.s.live.items
+    × AreSettled l.holders (taken_by l.decisions) l.s.settled.items
+    × (left_by l.decisions ≤ left_by l.initial.decisions)
+    × Widens l.run.r.now l.holders l.run.t.now.steps (taken_by l.initial.decisions) (taken_by l.decisions)

@@ -11,6 +11,6 @@ asks_exact-exact-requires c =
       count = asked.count;
       intervals = asked.intervals;
       number = asked.number;
-      live = live_stays c.args.holders.now (taken_by c.args.d.now) (taken_by c.take_if.new.d) c.args.s.now.live.items c.take_if.ensures.kept asked.live;
-      here = pinned_more c.args.holders.now (taken_by c.args.d.now) (taken_by c.take_if.new.d) (slice_index_or c.args.holders.now c.args.n 0) c.take_if.ensures.kept asked.here;
+      live = live_stays c.args.holders.now (taken_by c.args.decisions.now) (taken_by c.take_if.new.decisions) c.args.s.now.live.items c.take_if.ensures.kept asked.live;
+      here = pinned_more c.args.holders.now (taken_by c.args.decisions.now) (taken_by c.take_if.new.decisions) (slice_index_or c.args.holders.now c.args.number 0) c.take_if.ensures.kept asked.here;
     }

@@ -9,5 +9,5 @@ returns-then-branch-clause-met c = λ e after before l f m.
     let asked = c.in_ok-back_loaded.ensures.asked c.if-branch.true in (
       c.in_ok-back_loaded.ensures.met after before l (λ r v q h.
           subst (λ (start : ℕ). AllByRecursion (IsMet before) (of_bytes start c.args.a.bytes)) (sym c.own_bytes-own.ensures.from) (f r v q h).0) m,
-      (f asked.0 asked.1 asked.2 (m.registers c.args.at.thread c.args.at.depth asked.0 asked.1 asked.3)).1,
+      (f asked.0 asked.1 asked.2 (m.registers c.args.at.thread.0 c.args.at.depth asked.0 asked.1 asked.3)).1,
     )

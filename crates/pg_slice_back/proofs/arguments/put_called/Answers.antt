@@ -6,4 +6,4 @@ use Rattle.pg_slice_back.proofs.arguments.put_called.Goals as goal
 
 pub returns : goal.returns
 returns c = λ s y th dp h m.
-    c.in_ok-put_checked.ensures s y th dp (subst (λ (qs : List Demand). AllByRecursion (IsMet s) qs) (called y c.args.x.now c.args.kind (sym c.is_start.ensures ∙ c.if-is_start.false)) h) m
+    c.in_ok-put_checked.ensures s y th dp (subst (λ (qs : List Demand). AllByRecursion (IsMet s) qs) (called y c.args.instr.now c.args.kind (sym c.is_start.ensures ∙ c.if-is_start.false)) h) m

@@ -11,6 +11,6 @@ use Rattle.pg_slice_back.proofs.arguments.put_checked.Given as goal
 
 abbrev pub invariant-loop-i : goal.invariant-loop-i
 invariant-loop-i l =
-    (s : SymbolicState) (y : Seen) → thread_in y.moment ≡ l.at.thread → depth_of y ≡ l.at.depth
-    → AllByRecursion (IsMet s) (all_of (operand_demands y l.x true) (checked_of l.x.op)) → AreMet s l.initial.w →
-    AreMet s l.w
+    (s : SymbolicState) (y : Seen) → thread_in y.moment ≡ l.at.thread.0 → depth_of y ≡ l.at.depth
+    → AllByRecursion (IsMet s) (all_of (operand_demands y l.instr true) (checked_of l.instr.op)) → AreMet s l.initial.demanded →
+    AreMet s l.demanded

@@ -1,8 +1,8 @@
 use Rattle.std.proofs.Common.{◌≡◌, ℕ, ◌<◌, true, Option, Some, None, IfSome, refl, sym, subst}
-use Rattle.pg_slice_decisions.specs.declared.steps.DecisionSet.{DecisionSet}
-use Rattle.pg_slice_decisions.specs.Steps.{AreOf, step_of, taken_by}
+use Rattle.pg_slice_passes.specs.pg_slice_decisions.declared.steps.DecisionSet.{DecisionSet}
+use Rattle.pg_slice_passes.specs.pg_slice_decisions.Steps.{AreOf, step_of, taken_by}
 use Rattle.pg_slice_rules.specs.declared.decision.Decision.{Decision}
-use Rattle.pg_slice_replay.specs.Landmarks.{landmark_of}
+use Rattle.pg_slice_passes.specs.pg_slice_replay.Landmarks.{landmark_of}
 use Rattle.pg_law_demands.specs.Along.{known_at}
 use Rattle.pg_law_demands.proofs.StepBack.{seen_with}
 use Rattle.pg_slice_back.proofs.Dispatch.{call_is, landmark_is, own_met, region_met}
@@ -14,14 +14,14 @@ due_fits None n d h f = tt
 due_fits (Some z) n d h f = (f.0, f.1, subst (λ (i : ℕ). i < f.0) (sym h) f.2)
 
 pub take_due-requires : goal.take_due-requires
-take_due-requires c = due_fits c.in_ok-due.due c.args.n c.args.d.now c.in_ok-due.ensures.step c.requires.size
+take_due-requires c = due_fits c.in_ok-due.due c.args.number c.args.decisions.now c.in_ok-due.ensures.step c.requires.size
 
 pub returns-clause-back : goal.returns-clause-back
 returns-clause-back c = λ R e m st within met.
-    let n = c.args.n in
-    let p = c.args.p.now in
-    let r = c.args.r.now in
-    let x = c.args.x.now in
+    let n = c.args.number in
+    let p = c.args.program.now in
+    let r = c.args.reference.now in
+    let x = c.args.instr.now in
     let step = c.args.step.now in
     let counts = c.args.counts in
     let at = c.call_of-at.result in
@@ -33,6 +33,6 @@ returns-clause-back c = λ R e m st within met.
     let t = sym call.thread in
     let k = sym call.depth in (
       c.in_ok-put_region.ensures (landmark_of R.program R.regions m) s y (landmark_is R e p r x step counts n m st) t k (region_met R e p r x step counts n m st)
-          (c.in_ok-put_own.ensures s y t k refl (own_met R e p r x step counts n m st (taken_by c.take_due.new.d) more) b.0),
+          (c.in_ok-put_own.ensures s y t k refl (own_met R e p r x step counts n m st (taken_by c.take_due.new.decisions) more) b.0),
       more,
     )

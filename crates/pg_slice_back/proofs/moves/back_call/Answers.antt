@@ -8,10 +8,10 @@ use Rattle.pg_slice_back.proofs.moves.back_call.Goals as goal
 
 pub returns : goal.returns
 returns c = λ after before l f m.
-    let t = c.args.at.thread in
+    let t = c.args.at.thread.0 in
     let k = c.args.at.depth in
-    let old = c.args.w.now in
-    let mid = c.take_parameters.new.w in
+    let old = c.args.demanded.now in
+    let mid = c.take_parameters.new.demanded in
     let e = c.in_ok-wanted.ensures in
-    c.in_ok-put_wanted.ensures before (without_met t k (is_target c.args.target) none after before mid c.leave-was.new.w l c.leave-was.ensures.without (less_met after old mid e.less m))
+    c.in_ok-put_wanted.ensures before (without_met t k (is_target c.args.target) none after before mid c.leave-was.new.demanded l c.leave-was.ensures.without (less_met after old mid e.less m))
     (subst (λ (xs : List Wanted). AreWanted before t k xs) (sym c.as_slice.ensures.value) (e.wanted after before m f))

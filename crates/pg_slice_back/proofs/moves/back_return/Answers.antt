@@ -6,8 +6,8 @@ use Rattle.pg_slice_back.proofs.moves.back_return.Goals as goal
 
 pub returns-in_ok-put_optional-in-Some : goal.returns-in_ok-put_optional-in-Some
 returns-in_ok-put_optional-in-Some c = λ after before l f m.
-    let t = c.args.at.thread in
+    let t = c.args.at.thread.0 in
     let k = c.args.at.depth - 1 in
     let was = c.in-Some.ensures.was in
-    c.in_ok-put_optional-in-Some.ensures before (without_met t k (is_target c.args.target) none after before c.args.w.now c.leave.new.w l c.in-Some.ensures.without m)
+    c.in_ok-put_optional-in-Some.ensures before (without_met t k (is_target c.args.target) none after before c.args.demanded.now c.leave.new.demanded l c.in-Some.ensures.without m)
     (f was.0 c.in-Some.whole was.1 (m.registers t k was.0 c.in-Some.whole was.2))

@@ -7,7 +7,7 @@ use Rattle.pg_slice_back.proofs.moves.put_both.Goals as goal
 
 pub returns : goal.returns
 returns c = λ s m h.
-    let t = c.args.at.thread in
+    let t = c.args.at.thread.0 in
     let k = c.args.at.depth in
     let base = of_value t k true c.args.base in
     let rest = of_values t k (index_values c.args.indices.now) in

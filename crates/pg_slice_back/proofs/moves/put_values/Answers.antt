@@ -6,4 +6,4 @@ use Rattle.pg_slice_back.proofs.moves.put_values.Goals as goal
 
 pub loop-i-preserved : goal.loop-i-preserved
 loop-i-preserved c = λ s m h.
-    c.in_ok-put_value.ensures s (c.loop-i.invariant s m h) (each_of (of_value c.args.at.thread c.args.at.depth true) (IsMet s) c.args.values.now c.loop-i.i c.value_at.result c.value_at.ensures h)
+    c.in_ok-put_value.ensures s (c.loop-i.invariant s m h) (each_of (of_value c.args.at.thread.0 c.args.at.depth true) (IsMet s) c.args.values.now c.loop-i.i c.value_at.result c.value_at.ensures h)

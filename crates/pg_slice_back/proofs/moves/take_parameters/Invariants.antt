@@ -11,8 +11,8 @@ use Rattle.pg_slice_back.proofs.moves.take_parameters.Given as goal
 
 abbrev pub invariant-loop-i : goal.invariant-loop-i
 invariant-loop-i l =
-    IsLess l.initial.w l.w
-    × ((after before : SymbolicState) → AreMet after l.initial.w →
-    ((i : ℕ) (z : Value) (b : Bool) → slice_get l.args i ≡ Some z → IsMet after (register_demand l.at.thread (suc l.at.depth) i b)
-    → AllByRecursion (IsMet before) (of_value l.at.thread l.at.depth b z)) →
-    AreWanted before l.at.thread l.at.depth l.wanted.items)
+    IsLess l.initial.demanded l.demanded
+    × ((after before : SymbolicState) → AreMet after l.initial.demanded →
+    ((i : ℕ) (z : Value) (b : Bool) → slice_get l.args i ≡ Some z → IsMet after (register_demand l.at.thread.0 (suc l.at.depth) i b)
+    → AllByRecursion (IsMet before) (of_value l.at.thread.0 l.at.depth b z)) →
+    AreWanted before l.at.thread.0 l.at.depth l.wanted.items)

@@ -4,4 +4,4 @@ use Rattle.pg_slice_back.specs.Met.{AreMet}
 use Rattle.pg_slice_back.proofs.paths.put_cells.Given as goal
 
 abbrev pub invariant-loop-i : goal.invariant-loop-i
-invariant-loop-i l = (s : SymbolicState) → AreCellsMet s l.pointers l.offsets → AreMet s l.initial.w → AreMet s l.w
+invariant-loop-i l = (s : SymbolicState) → AreCellsMet s l.pointers l.offsets → AreMet s l.initial.demanded → AreMet s l.demanded

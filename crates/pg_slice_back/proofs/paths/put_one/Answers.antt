@@ -1,4 +1,4 @@
-use Rattle.pg_slice_replay.specs.Given.{access_as}
+use Rattle.pg_slice_passes.specs.pg_slice_replay.Given.{access_as}
 use Rattle.pg_law_demands.specs.Cells.{IsMet}
 use Rattle.pg_law_demands.specs.Demands.{free_access_demands}
 use Rattle.pg_slice_back.proofs.NeedsBackOverSteps.{each_of}

@@ -10,9 +10,9 @@ use Rattle.pg_slice_back.proofs.phis.back_edge.Goals as goal
 
 pub returns-in_ok-back_phis-in-Some : goal.returns-in_ok-back_phis-in-Some
 returns-in_ok-back_phis-in-Some c = λ after before l f m.
-    let t = c.args.at.thread in
+    let t = c.args.at.thread.0 in
     let k = c.args.at.depth in
-    let p = c.args.p.now in
+    let p = c.args.program.now in
     let xs = c.phis.result.now in
     let to = c.in-Some.to in
     c.in_ok-back_phis-in-Some.ensures after before

@@ -11,15 +11,15 @@ use Rattle.pg_slice_back.proofs.phis.back_phis.Goals as goal
 
 pub loop-j-preserved : goal.loop-j-preserved
 loop-j-preserved c =
-    let t = c.args.at.thread in
+    let t = c.args.at.thread.0 in
     let k = c.args.at.depth in
     let xs = c.args.phis.now in
     let j = c.loop-j.j in
     let l = c.loop-j-test.true in
     let x = c.phi_at.result.now in
-    let old = c.args.w.now in
-    let mid = c.loop-j.w in
-    let new = c.take_phi.new.w in
+    let old = c.args.demanded.now in
+    let mid = c.loop-j.demanded in
+    let new = c.take_phi.new.demanded in
     let v = c.loop-j.invariant in
     let e = c.in_ok-take_phi.ensures in
     let p : ℕ = length xs - (j + 1) in
@@ -33,11 +33,11 @@ loop-j-preserved c =
 
 pub returns : goal.returns
 returns c = λ after before l f m.
-    let t = c.args.at.thread in
+    let t = c.args.at.thread.0 in
     let k = c.args.at.depth in
     let xs = c.args.phis.now in
     let v = c.loop-j.invariant in
     let z : length xs - c.loop-j.j ≡ 0 = omega (arith, c.loop-j-test.false) in
-    let w = subst (λ (i : ℕ). Without t k (phis_set (drop i xs)) none c.args.w.now c.loop-j.w) z v.0 in
-    c.in_ok-put_wanted.ensures before (without_met t k (phis_set xs) none after before c.args.w.now c.loop-j.w l w m)
+    let w = subst (λ (i : ℕ). Without t k (phis_set (drop i xs)) none c.args.demanded.now c.loop-j.demanded) z v.0 in
+    c.in_ok-put_wanted.ensures before (without_met t k (phis_set xs) none after before c.args.demanded.now c.loop-j.demanded l w m)
     (subst (λ (ys : List Wanted). AreWanted before t k ys) (sym c.as_slice.ensures.value) (v.1 before (λ i u x g h a. f i u x g h (m.registers t k i u a))))

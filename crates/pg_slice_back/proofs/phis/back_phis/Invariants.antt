@@ -13,6 +13,6 @@ use Rattle.pg_slice_back.proofs.phis.back_phis.Given as goal
 
 abbrev pub invariant-loop-j : goal.invariant-loop-j
 invariant-loop-j l =
-    Without l.at.thread l.at.depth (phis_set (drop (length l.phis - l.j) l.phis)) none l.fn.w l.w
-    × ((s : SymbolicState) → ((i : ℕ) (v : Bool) (x : Instr) → i < l.count → last_phi l.phis i ≡ Some x → asked_of l.fn.w l.at.thread l.at.depth i ≡ Some v →
-    AllByRecursion (IsMet s) (of_optional l.at.thread l.at.depth v (incoming_from (incoming_of x.op) l.from))) → AreWanted s l.at.thread l.at.depth l.wanted.items)
+    Without l.at.thread.0 l.at.depth (phis_set (drop (length l.phis - l.j) l.phis)) none l.fn.demanded l.demanded
+    × ((s : SymbolicState) → ((i : ℕ) (v : Bool) (x : Instr) → i < l.count → last_phi l.phis i ≡ Some x → asked_of l.fn.demanded l.at.thread.0 l.at.depth i ≡ Some v →
+    AllByRecursion (IsMet s) (of_optional l.at.thread.0 l.at.depth v (incoming_from (incoming_of x.op) l.from))) → AreWanted s l.at.thread.0 l.at.depth l.wanted.items)

@@ -7,7 +7,7 @@ use Rattle.pg_slice_back.proofs.phis.take_phi.Goals as goal
 
 pub returns-then-is_within-clause-wanted : goal.returns-then-is_within-clause-wanted
 returns-then-is_within-clause-wanted c = λ s f h.
-    let t = c.args.at.thread in
+    let t = c.args.at.thread.0 in
     let k = c.args.at.depth in
     let whole = c.in-Some.whole in
     let was = c.in-Some.ensures.was in

@@ -13,13 +13,13 @@ use Rattle.pg_slice_back.proofs.RegisterCounts.{all_counted, first_known, has_at
 use Rattle.pg_slice_back.proofs.registers.register_counts.Goals as goal
 
 pub instr-requires : goal.instr-requires
-instr-requires c = (step_fits c.args.p.now c.args.t.now.steps c.loop-n.n c.step-step.result c.requires.steps c.step-step.ensures).instr
+instr-requires c = (step_fits c.args.program.now c.args.trace.now.steps c.loop-n.n c.step-step.result c.requires.steps c.step-step.ensures).instr
 
 pub loop-n-init : goal.loop-n-init
 loop-n-init c = (
   ap (λ (xs : List Counts). length xs) c.no_counts-counts.ensures,
   λ regions gated input keeps.
-      let R = reference_of c.args.p.now regions gated input c.args.t.now.steps in (
+      let R = reference_of c.args.program.now regions gated input c.args.trace.now.steps in (
         subst (AreStacks c.in_ok-calls.calls) (sym (first_known R every)) c.in_ok-calls.ensures,
         subst (AreCountedTo R 0) (sym c.no_counts-counts.ensures) (none_counted R),
       ),
@@ -29,8 +29,8 @@ pub loop-n-preserved : goal.loop-n-preserved
 loop-n-preserved c =
     let v = c.loop-n.invariant in
     let e = c.in_ok-count_step.ensures in
-    let xs = c.args.t.now.steps in
-    let p = c.args.p.now in
+    let xs = c.args.trace.now.steps in
+    let p = c.args.program.now in
     let old = c.loop-n.counts.items in
     let n = c.loop-n.n in
     let many = v.0 in
@@ -56,7 +56,7 @@ returns-clause-count c =
 
 pub returns-clause-counted : goal.returns-clause-counted
 returns-clause-counted c = λ regions gated input keeps.
-    let R = reference_of c.args.p.now regions gated input c.args.t.now.steps in
-    let q : c.loop-n.n ≡ length c.args.t.now.steps = omega (arith, c.loop-n.auto.n-end, c.loop-n-test.false, c.len-n-end.ensures) in
-    all_counted R (length c.args.t.now.steps) c.loop-n.counts.items (as_many gated c.args.p.now input c.args.t.now.steps)
+    let R = reference_of c.args.program.now regions gated input c.args.trace.now.steps in
+    let q : c.loop-n.n ≡ length c.args.trace.now.steps = omega (arith, c.loop-n.auto.n-end, c.loop-n-test.false, c.len-n-end.ensures) in
+    all_counted R (length c.args.trace.now.steps) c.loop-n.counts.items (as_many gated c.args.program.now input c.args.trace.now.steps)
     (subst (λ (k : ℕ). AreCountedTo R k c.loop-n.counts.items) q (c.loop-n.invariant.1 regions gated input keeps).1)

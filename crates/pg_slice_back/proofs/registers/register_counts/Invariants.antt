@@ -11,5 +11,5 @@ use Rattle.pg_slice_back.proofs.registers.register_counts.Given as goal
 abbrev pub invariant-loop-n : goal.invariant-loop-n
 invariant-loop-n l =
     (length l.counts.items ≡ l.n)
-    × ((regions : Regions) (gated : List InstrId) (input : List ℤ) → ExtentsKeep (reference_of l.p regions gated input l.t.steps) →
-    AreStacks l.calls (known_at (reference_of l.p regions gated input l.t.steps) every l.n) × AreCountedTo (reference_of l.p regions gated input l.t.steps) l.n l.counts.items)
+    × ((regions : Regions) (gated : List InstrId) (input : List ℤ) → ExtentsKeep (reference_of l.program regions gated input l.trace.steps) →
+    AreStacks l.calls (known_at (reference_of l.program regions gated input l.trace.steps) every l.n) × AreCountedTo (reference_of l.program regions gated input l.trace.steps) l.n l.counts.items)

@@ -1,7 +1,7 @@
 use Rattle.std.proofs.Common.{◌≡◌, ◌+◌, suc, arith, length, sym, subst}
-use Rattle.pg_slice_rules.specs.Rules.{path_needs}
-use Rattle.pg_slice_values.specs.SymbolicNodes.{symbolic_by}
-use Rattle.pg_slice_values.proofs.GrowingNodes.{grew_length, grew_then, symbolic_node_more}
+use Rattle.pg_slice_memory.specs.pg_slice_rules.Rules.{path_needs}
+use Rattle.pg_slice_memory.specs.pg_slice_values.SymbolicNodes.{symbolic_by}
+use Rattle.pg_slice_memory.proofs.of_pg_slice_values.GrowingNodes.{grew_length, grew_then, symbolic_node_more}
 use Rattle.pg_slice_memory.specs.Changes.{symbolics_of}
 use Rattle.pg_slice_checks.specs.Asks.{Adds}
 use Rattle.pg_slice_checks.proofs.PathLoads.{loads_more, path_ends, symbolic_nodes_more}

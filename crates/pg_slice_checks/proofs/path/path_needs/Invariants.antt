@@ -1,8 +1,8 @@
 use Rattle.std.proofs.Common.{List, drop, length}
 use Rattle.pg_num.specs.Places.{ByteRange}
 use Rattle.pg_precondition.specs.Nodes.{NodeList}
-use Rattle.pg_slice_rules.specs.Rules.{path_needs}
-use Rattle.pg_slice_values.specs.SymbolicNodes.{Grew, IsSymbolicNode, symbolic_by}
+use Rattle.pg_slice_memory.specs.pg_slice_rules.Rules.{path_needs}
+use Rattle.pg_slice_memory.specs.pg_slice_values.SymbolicNodes.{Grew, IsSymbolicNode, symbolic_by}
 use Rattle.pg_slice_memory.specs.Changes.{AreSymbolicNodes, symbolics_of}
 use Rattle.pg_slice_checks.specs.Asks.{Adds}
 use Rattle.pg_slice_checks.specs.Paths.{AreCells}

@@ -1,6 +1,6 @@
 use Rattle.std.proofs.Common.{map, ◌∙◌, sym, ap}
 use Rattle.pg_run_trace.specs.Steps.{access_in}
-use Rattle.pg_slice_values.specs.SymbolicNodes.{symbolic_by}
+use Rattle.pg_slice_memory.specs.pg_slice_values.SymbolicNodes.{symbolic_by}
 use Rattle.pg_slice_checks.specs.Steps.{access_index, at}
 use Rattle.pg_slice_checks.proofs.AskedByCases.{bounds_of_access}
 use Rattle.pg_slice_checks.proofs.step.bounds_needs.Goals as goal

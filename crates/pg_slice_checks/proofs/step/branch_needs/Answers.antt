@@ -1,7 +1,7 @@
 use Rattle.std.proofs.Common.{ap, ◌∙◌, sym, ◌∷◌, [], subst, true, false, ◌≡◌}
 use Rattle.pg_precondition.specs.declared.check.Test.TheVariants as test
-use Rattle.pg_slice_rules.specs.Rules.{Value, edge_tests, is_case}
-use Rattle.pg_slice_values.specs.SymbolicNodes.{symbolic_by}
+use Rattle.pg_slice_memory.specs.pg_slice_rules.Rules.{Value, edge_tests, is_case}
+use Rattle.pg_slice_memory.specs.pg_slice_values.SymbolicNodes.{symbolic_by}
 use Rattle.pg_slice_checks.specs.Asks.{Adds}
 use Rattle.pg_slice_checks.proofs.AskedByCases.{case_tests, default_tests, other_tests}
 use Rattle.pg_slice_checks.proofs.step.branch_needs.Goals as goal

@@ -1,7 +1,7 @@
 use Rattle.std.proofs.Common.{map, ◌∷◌, [], ◌≡◌, sym, subst, arith, length, slice_index}
 use Rattle.pg_precondition.specs.declared.check.Test.TheVariants as test
-use Rattle.pg_slice_rules.specs.Rules.{Value}
-use Rattle.pg_slice_values.specs.SymbolicNodes.{symbolic_by}
+use Rattle.pg_slice_memory.specs.pg_slice_rules.Rules.{Value}
+use Rattle.pg_slice_memory.specs.pg_slice_values.SymbolicNodes.{symbolic_by}
 use Rattle.pg_slice_checks.specs.Asks.{Adds}
 use Rattle.pg_slice_checks.specs.Steps.{at, below, equal_needs}
 use Rattle.pg_slice_checks.proofs.OneNeedMore.{adds_then}

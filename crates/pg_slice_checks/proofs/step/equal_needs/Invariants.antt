@@ -1,7 +1,7 @@
 use Rattle.std.proofs.Common.{map, length}
 use Rattle.std.specs.List.{AllByRecursion}
 use Rattle.pg_precondition.specs.Nodes.{NodeList}
-use Rattle.pg_slice_values.specs.SymbolicNodes.{IsSymbolicNode, symbolic_by}
+use Rattle.pg_slice_memory.specs.pg_slice_values.SymbolicNodes.{IsSymbolicNode, symbolic_by}
 use Rattle.pg_slice_checks.specs.Asks.{Adds}
 use Rattle.pg_slice_checks.specs.Steps as steps
 use Rattle.pg_slice_checks.specs.Steps.{below}

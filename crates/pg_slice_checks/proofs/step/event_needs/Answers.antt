@@ -1,5 +1,5 @@
 use Rattle.std.proofs.Common.{map, ap, subst, sym, ◌∙◌}
-use Rattle.pg_slice_values.specs.SymbolicNodes.{symbolic_by}
+use Rattle.pg_slice_memory.specs.pg_slice_values.SymbolicNodes.{symbolic_by}
 use Rattle.pg_slice_checks.specs.Asks.{Adds}
 use Rattle.pg_slice_checks.specs.Steps.{equal_needs}
 use Rattle.pg_slice_checks.proofs.EventOperands.{enough, event_by, few}

@@ -1,5 +1,5 @@
 use Rattle.std.proofs.Common.{map}
-use Rattle.pg_slice_values.specs.SymbolicNodes.{symbolic_by}
+use Rattle.pg_slice_memory.specs.pg_slice_values.SymbolicNodes.{symbolic_by}
 use Rattle.pg_slice_checks.specs.Steps.{bounds_needs, value_needs}
 use Rattle.pg_slice_checks.proofs.OneNeedMore.{adds_then}
 use Rattle.pg_slice_checks.proofs.step.step_needs.Goals as goal

@@ -1,7 +1,7 @@
 use Rattle.std.proofs.Common.{map, ap, subst, sym, ◌∙◌, ◌∷◌, [], length}
 use Rattle.pg_precondition.specs.declared.check.Test.TheVariants as test
-use Rattle.pg_slice_rules.specs.Rules.{Value, address_index, edge_tests}
-use Rattle.pg_slice_values.specs.SymbolicNodes.{symbolic_by}
+use Rattle.pg_slice_memory.specs.pg_slice_rules.Rules.{Value, address_index, edge_tests}
+use Rattle.pg_slice_memory.specs.pg_slice_values.SymbolicNodes.{symbolic_by}
 use Rattle.pg_slice_checks.specs.Asks.{Adds}
 use Rattle.pg_slice_checks.specs.Steps.{at}
 use Rattle.pg_slice_checks.proofs.AskedByCases.{or_either}

@@ -1,7 +1,7 @@
 use Rattle.std.proofs.Common.{◌+◌, ◌∙◌, ap, arith, subst, ℕ}
 use mathlib.Core.Path.{fun_ext}
 use Rattle.std.proofs.lemmas.Result.{IfOk-weaker}
-use Rattle.pg_slice_rules.specs.SymbolicValues.{valued}
+use Rattle.pg_slice_values.specs.pg_slice_rules.SymbolicValues.{valued}
 use Rattle.std.specs.Prelude.{Some}
 use Rattle.pg_slice_memory.proofs.LoadedNumbers.{initial_loaded, whole_loaded}
 use Rattle.std.proofs.Math.ListN.{length-set}

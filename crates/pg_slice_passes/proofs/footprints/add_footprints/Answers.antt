@@ -1,5 +1,5 @@
 use Rattle.std.proofs.Common.{◌++◌, ◌∙◌}
-use Rattle.pg_law_least.specs.Footprints.{access_footprints, region_footprints}
+use Rattle.pg_law_demands.specs.pg_law_least.Footprints.{access_footprints, region_footprints}
 use Rattle.pg_slice_passes.specs.Footprints.{owners_at}
 use Rattle.pg_slice_passes.proofs.OneStepMore.{no_owners_at, no_footprints_at}
 use Rattle.pg_slice_passes.proofs.FootprintOrder.{adds_nothing}

@@ -1,7 +1,7 @@
 use Rattle.std.proofs.Common.{◌≤◌, length, refl, sym, ◌∙◌, arith}
 use Rattle.pg_slice_rules.specs.declared.decision.Decision.TheVariants.{Pinned}
 use Rattle.pg_slice_replay.specs.Kept.{landmark_at}
-use Rattle.pg_slice_memory.specs.Changes.{symbolics_of}
+use Rattle.pg_slice_checks.specs.pg_slice_memory.Changes.{symbolics_of}
 use Rattle.pg_slice_passes.proofs.StoredBytes.{none_left}
 use Rattle.pg_slice_passes.proofs.KeptKnowledge.{if_some_all, if_some_from}
 use Rattle.pg_slice_passes.proofs.memory.forget.Goals as goal

@@ -4,7 +4,7 @@ use Rattle.pg_precondition.specs.Nodes.{NodeList}
 use Rattle.pg_slice_rules.specs.declared.decision.Decision.TheVariants.{Pinned}
 use Rattle.pg_slice_rules.specs.Known.{forgotten_bytes}
 use Rattle.pg_slice_replay.specs.Kept.{landmark_at}
-use Rattle.pg_slice_memory.specs.Changes.{AreSymbolicNodes, symbolics_of}
+use Rattle.pg_slice_checks.specs.pg_slice_memory.Changes.{AreSymbolicNodes, symbolics_of}
 use Rattle.pg_slice_passes.proofs.memory.forget.Given as goal
 
 abbrev pub invariant-loop-k : goal.invariant-loop-k

@@ -3,7 +3,7 @@ use Rattle.std.proofs.lemmas.Result.{on_ok_weaker}
 use Rattle.pg_slice_rules.specs.Freeable.{bounds_of}
 use Rattle.pg_slice_rules.specs.SymbolicValues.{spoiled}
 use Rattle.pg_slice_rules.specs.declared.decision.Decision.TheVariants.{Pinned}
-use Rattle.pg_slice_memory.specs.Changes.{symbolics_of}
+use Rattle.pg_slice_checks.specs.pg_slice_memory.Changes.{symbolics_of}
 use Rattle.pg_slice_passes.proofs.StoredBytes.{bounds_spoiled}
 use Rattle.pg_slice_passes.proofs.memory.forget_access.Goals as goal
 

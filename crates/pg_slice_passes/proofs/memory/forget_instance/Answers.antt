@@ -1,6 +1,6 @@
 use Rattle.std.proofs.Common.{sym, ◌∙◌}
 use Rattle.pg_slice_replay.specs.Kept.{landmark_at}
-use Rattle.pg_slice_memory.specs.Changes.{symbolics_of}
+use Rattle.pg_slice_checks.specs.pg_slice_memory.Changes.{symbolics_of}
 use Rattle.pg_slice_passes.proofs.StoredBytes.{instance_freed, none_freed}
 use Rattle.pg_slice_passes.proofs.KeptKnowledge.{if_some_from}
 use Rattle.pg_slice_passes.proofs.memory.forget_instance.Goals as goal

@@ -5,7 +5,7 @@ use Rattle.pg_slice_rules.specs.SymbolicValues.{Symbolic}
 use Rattle.pg_slice_rules.specs.declared.decision.Decision.TheVariants.{Pinned}
 use Rattle.pg_slice_replay.specs.Given.{access_as}
 use Rattle.pg_slice_replay.specs.Kept.{landmark_at}
-use Rattle.pg_slice_memory.specs.Changes.{symbolics_of}
+use Rattle.pg_slice_checks.specs.pg_slice_memory.Changes.{symbolics_of}
 use Rattle.pg_slice_passes.proofs.StoredBytes.{none_forgotten, one_forgotten}
 use Rattle.pg_slice_passes.proofs.KeptKnowledge.{if_some_from}
 use Rattle.pg_slice_passes.proofs.memory.forget_next.Goals as goal

@@ -4,7 +4,7 @@ use Rattle.std.proofs.lemmas.Result.{IfOk-weaker}
 use Rattle.pg_num.specs.Numbers.{modulus}
 use Rattle.pg_slice_rules.specs.Known.{load_of}
 use Rattle.pg_slice_rules.specs.SymbolicValues as symbolics
-use Rattle.pg_slice_memory.specs.Changes as bytes
+use Rattle.pg_slice_checks.specs.pg_slice_memory.Changes as bytes
 use Rattle.pg_slice_passes.proofs.memory.load.Goals as goal
 
 pub within-requires : goal.within-requires

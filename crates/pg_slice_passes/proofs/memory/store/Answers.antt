@@ -5,8 +5,8 @@ use Rattle.pg_slice_rules.specs.Known.{bytes_stored}
 use Rattle.pg_slice_rules.specs.SymbolicValues.{symbolic_of}
 use Rattle.pg_slice_rules.specs.declared.decision.Decision.TheVariants.{Exact}
 use Rattle.pg_slice_values.proofs.GrowingNodes.{grew_length}
-use Rattle.pg_slice_memory.specs.Changes.{symbolics_of}
-use Rattle.pg_slice_memory.proofs.ByteNodes.{names_more}
+use Rattle.pg_slice_checks.specs.pg_slice_memory.Changes.{symbolics_of}
+use Rattle.pg_slice_checks.proofs.of_pg_slice_memory.ByteNodes.{names_more}
 use Rattle.pg_slice_registers.specs.SymbolicRegisterNodes.{registers_by}
 use Rattle.pg_slice_passes.proofs.StoredBytes.{bounds_spoiled, number_stored}
 use Rattle.pg_slice_passes.proofs.memory.store.Goals as goal

@@ -2,8 +2,8 @@ use Rattle.std.proofs.Common.{Option, length, ap, sym, ◌∙◌}
 use Rattle.std.proofs.lemmas.Result.{on_ok_weaker}
 use Rattle.pg_slice_rules.specs.Known.{bytes_by, written_symbolic}
 use Rattle.pg_slice_values.proofs.GrowingNodes.{grew_length}
-use Rattle.pg_slice_memory.specs.Changes.{symbolics_of}
-use Rattle.pg_slice_memory.proofs.ByteNodes.{names_more}
+use Rattle.pg_slice_checks.specs.pg_slice_memory.Changes.{symbolics_of}
+use Rattle.pg_slice_checks.proofs.of_pg_slice_memory.ByteNodes.{names_more}
 use Rattle.pg_slice_registers.specs.SymbolicRegisterNodes.{registers_by}
 use Rattle.pg_slice_passes.proofs.StoredBytes.{number_stored}
 use Rattle.pg_run_trace.specs.declared.step.Write.{Write}

@@ -2,8 +2,8 @@ use Rattle.std.proofs.Common.{◌≡◌, ℕ, ◌≤◌, List, length, take, ari
 use Rattle.pg_slice_rules.specs.Rules.{root_symbolic}
 use Rattle.pg_slice_rules.specs.SymbolicValues.{Symbolic}
 use Rattle.pg_slice_replay.specs.Paths.{cells_of}
-use Rattle.pg_slice_memory.specs.Changes as bytes
-use Rattle.pg_slice_memory.proofs.ByteNodes.{names_more}
+use Rattle.pg_slice_checks.specs.pg_slice_memory.Changes as bytes
+use Rattle.pg_slice_checks.proofs.of_pg_slice_memory.ByteNodes.{names_more}
 use Rattle.pg_slice_registers.specs.SymbolicRegisterNodes.{registers_by}
 use Rattle.pg_slice_values.specs.SymbolicNodes.{symbolic_by}
 use Rattle.pg_slice_values.proofs.GrowingNodes.{grew_length, grew_then}

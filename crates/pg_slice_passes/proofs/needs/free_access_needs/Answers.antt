@@ -6,7 +6,7 @@ use Rattle.pg_precondition.specs.Nodes.{NodeList}
 use Rattle.pg_region_paths.specs.Paths.{offsets_of}
 use Rattle.pg_slice_replay.specs.Given.{access_as}
 use Rattle.pg_slice_replay.specs.Kept.{landmark_at}
-use Rattle.pg_slice_memory.specs.Changes as bytes
+use Rattle.pg_slice_checks.specs.pg_slice_memory.Changes as bytes
 use Rattle.pg_slice_registers.specs.SymbolicRegisterNodes.{registers_by}
 use Rattle.pg_slice_values.specs.SymbolicNodes.{Grew}
 use Rattle.pg_slice_passes.proofs.AddedNodes.{each_region, same_some}

@@ -7,8 +7,8 @@ use Rattle.pg_slice_checks.specs.Asks.{Adds}
 use Rattle.pg_precondition.specs.Nodes.{NodeList}
 use Rattle.pg_slice_replay.specs.Kept.{landmark_at}
 use Rattle.pg_slice_replay.specs.Landmarks.{Landmark}
-use Rattle.pg_slice_memory.specs.Changes as bytes
-use Rattle.pg_slice_memory.proofs.ByteNodes.{names_more}
+use Rattle.pg_slice_checks.specs.pg_slice_memory.Changes as bytes
+use Rattle.pg_slice_checks.proofs.of_pg_slice_memory.ByteNodes.{names_more}
 use Rattle.pg_slice_registers.specs.SymbolicRegisterNodes.{registers_by}
 use Rattle.pg_slice_registers.proofs.KeptValues.{symbolic_nodes_kept}
 use Rattle.pg_slice_values.specs.SymbolicNodes.{Grew}

@@ -6,7 +6,7 @@ use Rattle.pg_slice_rules.specs.Rules.{all_of, free_access_needs, registers_befo
 use Rattle.pg_slice_checks.specs.Asks.{Adds}
 use Rattle.pg_slice_checks.specs.declared.asked.Asked.{Asked}
 use Rattle.pg_slice_replay.specs.Kept.{landmark_at}
-use Rattle.pg_slice_memory.specs.Changes as bytes
+use Rattle.pg_slice_checks.specs.pg_slice_memory.Changes as bytes
 use Rattle.pg_slice_registers.specs.SymbolicRegisterNodes.{registers_by}
 use Rattle.pg_slice_values.specs.SymbolicNodes.{Grew}
 use Rattle.pg_slice_passes.proofs.needs.region_needs.Given as goal

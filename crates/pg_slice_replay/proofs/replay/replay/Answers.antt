@@ -1,6 +1,6 @@
 use Rattle.std.proofs.Common.{arith}
 use Rattle.pg_run_trace.specs.declared.step.Step.{Step}
-use Rattle.pg_run.specs.State.{State}
+use Rattle.pg_law_effects.specs.pg_run.State.{State}
 use Rattle.pg_slice_replay.specs.Landmarks.{Landmark, landmark_with}
 use Rattle.pg_slice_replay.specs.Sought.{freed_in}
 use Rattle.pg_slice_replay.proofs.Replays.{replayed_all, replayed_first, replayed_next, row_told, takes_of}

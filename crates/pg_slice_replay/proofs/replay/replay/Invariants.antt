@@ -1,4 +1,4 @@
-use Rattle.pg_run.specs.Machine.{IsMachine}
+use Rattle.pg_law_effects.specs.pg_run.Machine.{IsMachine}
 use Rattle.pg_slice_replay.specs.Landmarks.{landmark_with}
 use Rattle.pg_slice_replay.specs.Sought.{freed_in}
 use Rattle.pg_slice_replay.specs.Targets.{AreTargets}

@@ -1,5 +1,5 @@
 use Rattle.std.proofs.Common.{◌∙◌, ap, subst, sym}
-use Rattle.pg_run.specs.Bound.{BoundState}
+use Rattle.pg_law_effects.specs.pg_run.Bound.{BoundState}
 use Rattle.pg_slice_replay.specs.Landmarks.{landmark_with, told_along}
 use Rattle.pg_slice_replay.specs.Sought.{freed_in}
 use Rattle.pg_slice_replay.specs.Targets.{AreTargets}

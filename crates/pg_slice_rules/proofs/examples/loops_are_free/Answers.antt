@@ -1,7 +1,7 @@
 use Rattle.std.proofs.Common.{refl}
-use Rattle.pg_ir.specs.Edges.{instrs_of, phis_of}
-use Rattle.pg_ir.specs.Program.{end_of, first_of, parameter_count, types_of}
-use Rattle.pg_run_memory.specs.Bytes.{number_of}
+use Rattle.pg_region_paths.specs.pg_ir.Edges.{instrs_of, phis_of}
+use Rattle.pg_region_paths.specs.pg_ir.Program.{end_of, first_of, parameter_count, types_of}
+use Rattle.pg_run.specs.pg_run_memory.Bytes.{number_of}
 use Rattle.pg_slice_rules.specs.Closed.{admits, asks, conditions}
 use Rattle.pg_slice_rules.specs.Known.{seen_from}
 use Rattle.pg_slice_rules.proofs.examples.loops_are_free.Goals as goal

@@ -15,7 +15,7 @@ pub returns-clause-older : goal.returns-clause-older
 returns-clause-older c =
     let b = before_is c.args.tops.now.items c.as_slice.result.now c.args.thread c.holder_at-before.result c.as_slice.ensures.value c.holder_at-before.ensures in
     let h = c.requires.begun c.args.thread in
-    older_next c.args.holders.now.items c.push.new.self.items c.holder_at-before.result c.args.n c.in_ok-push.ensures.items c.requires.long (omega (arith, b, h)) c.requires.older
+    older_next c.args.holders.now.items c.push.new.self.items c.holder_at-before.result c.args.number c.in_ok-push.ensures.items c.requires.long (omega (arith, b, h)) c.requires.older
 
 pub returns-clause-begun : goal.returns-clause-begun
 returns-clause-begun c =
@@ -23,14 +23,14 @@ returns-clause-begun c =
     let h = c.requires.begun c.args.thread in
     let i = c.begun-inner.ensures.older (omega (arith, b, h)) in
     let l = c.left_open-left.ensures.older in
-    λ u. subst (λ (xs : List ℕ). slice_index_or xs u 0 ≤ c.args.n + 1) (sym c.set_top.ensures)
-    (tops_next c.args.tops.now.items c.args.thread c.left_open-left.result c.args.n c.requires.begun (omega (arith, i, l)) u)
+    λ u. subst (λ (xs : List ℕ). slice_index_or xs u 0 ≤ c.args.number + 1) (sym c.set_top.ensures)
+    (tops_next c.args.tops.now.items c.args.thread c.left_open-left.result c.args.number c.requires.begun (omega (arith, i, l)) u)
 
 pub returns-clause-held : goal.returns-clause-held
 returns-clause-held c = λ R m marks keeps q e a.
     let b = before_is c.args.tops.now.items c.as_slice.result.now c.args.thread c.holder_at-before.result c.as_slice.ensures.value c.holder_at-before.ensures in
-    subst (λ (xs : List ℕ). AreHeld R c.args.r.now (c.args.n + 1) c.push.new.self.items xs) (sym c.set_top.ensures)
-    (hold_is R c.args.r.now c.args.n m c.args.holders.now.items c.args.tops.now.items c.args.thread c.holder_at-before.result c.begun-inner.result c.depth.result c.left_open-left.result
+    subst (λ (xs : List ℕ). AreHeld R c.args.reference.now (c.args.number + 1) c.push.new.self.items xs) (sym c.set_top.ensures)
+    (hold_is R c.args.reference.now c.args.number m c.args.holders.now.items c.args.tops.now.items c.args.thread c.holder_at-before.result c.begun-inner.result c.depth.result c.left_open-left.result
     c.edge.result c.push.new.self.items
     c.as_slice-2.result.now b c.in_ok-push.ensures.items c.as_slice-2.ensures.value marks keeps q e c.requires.thread c.requires.long c.depth.ensures.depth c.edge.ensures.edge
     c.begun-inner.ensures.first

@@ -1,8 +1,8 @@
 use Rattle.std.proofs.Common.{◌≡◌, ℕ, List, length, sym, ap, ◌∙◌, subst, arith}
 use Rattle.std.proofs.lemmas.List.{length-replicate}
 use Rattle.pg_run_trace.specs.declared.step.Step.{Step}
-use Rattle.pg_slice_passes.specs.Given.{reference_of}
-use Rattle.pg_slice_passes.proofs.AllAsked.{as_many}
+use Rattle.pg_slice_back.specs.pg_slice_passes.Given.{reference_of}
+use Rattle.pg_slice_back.proofs.of_pg_slice_passes.AllAsked.{as_many}
 use Rattle.pg_slice_walk.specs.Chains.{AreHeld, AreOlder}
 use Rattle.pg_slice_walk.proofs.OpenExtents.{all_held, held_first, none_older, none_on_top}
 use Rattle.pg_slice_walk.proofs.StepMoments.{has_at}
@@ -14,16 +14,16 @@ loop-n-init c = (
   ap (λ (xs : List ℕ). length xs) c.no_holders-holders.ensures,
   subst AreOlder (sym c.no_holders-holders.ensures) none_older,
   (λ u. let e = none_on_top c.in_ok-tops.tops.items 256 c.in_ok-tops.ensures u in omega (arith, e)),
-  λ p regions gated input marks keeps. subst (λ (xs : List ℕ). AreHeld (reference_of p regions gated input c.args.t.now.steps) c.args.r.now 0 xs c.in_ok-tops.tops.items)
+  λ p regions gated input marks keeps. subst (λ (xs : List ℕ). AreHeld (reference_of p regions gated input c.args.trace.now.steps) c.args.reference.now 0 xs c.in_ok-tops.tops.items)
       (sym c.no_holders-holders.ensures)
-      (held_first (reference_of p regions gated input c.args.t.now.steps) c.args.r.now c.in_ok-tops.tops.items (none_on_top c.in_ok-tops.tops.items 256 c.in_ok-tops.ensures)),
+      (held_first (reference_of p regions gated input c.args.trace.now.steps) c.args.reference.now c.in_ok-tops.tops.items (none_on_top c.in_ok-tops.tops.items 256 c.in_ok-tops.ensures)),
 )
 
 pub loop-n-preserved : goal.loop-n-preserved
 loop-n-preserved c =
     let v = c.loop-n.invariant in
     let e = c.in_ok-hold.ensures in
-    let xs = c.args.t.now.steps in (
+    let xs = c.args.trace.now.steps in (
       e.tops ∙ v.0,
       e.long,
       e.older,
@@ -38,7 +38,7 @@ returns-clause-older c = c.loop-n.invariant.2
 
 pub returns-clause-holds : goal.returns-clause-holds
 returns-clause-holds c = λ p regions gated input marks keeps.
-    let q : c.loop-n.n ≡ length c.args.t.now.steps = omega (arith, c.loop-n.auto.n-end, c.loop-n-test.false, c.len-n-end.ensures) in
-    let R = reference_of p regions gated input c.args.t.now.steps in
-    all_held R c.args.r.now (length c.args.t.now.steps) c.loop-n.holders.items c.loop-n.tops.items (as_many gated p input c.args.t.now.steps)
-    (subst (λ (k : ℕ). AreHeld R c.args.r.now k c.loop-n.holders.items c.loop-n.tops.items) q (c.loop-n.invariant.4 p regions gated input marks keeps))
+    let q : c.loop-n.n ≡ length c.args.trace.now.steps = omega (arith, c.loop-n.auto.n-end, c.loop-n-test.false, c.len-n-end.ensures) in
+    let R = reference_of p regions gated input c.args.trace.now.steps in
+    all_held R c.args.reference.now (length c.args.trace.now.steps) c.loop-n.holders.items c.loop-n.tops.items (as_many gated p input c.args.trace.now.steps)
+    (subst (λ (k : ℕ). AreHeld R c.args.reference.now k c.loop-n.holders.items c.loop-n.tops.items) q (c.loop-n.invariant.4 p regions gated input marks keeps))

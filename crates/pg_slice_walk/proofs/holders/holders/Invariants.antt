@@ -3,8 +3,8 @@ use Rattle.std.specs.Prelude.{slice_index_or}
 use Rattle.pg_ir.specs.declared.ids.InstrId.{InstrId}
 use Rattle.pg_ir.specs.Program.{NumberedProgram}
 use Rattle.pg_slice_rules.specs.Freeable.{Regions}
-use Rattle.pg_law_least.specs.Keeps.{ExtentsKeep}
-use Rattle.pg_slice_passes.specs.Given.{HasLandmarks, reference_of}
+use Rattle.pg_slice_back.specs.pg_law_least.Keeps.{ExtentsKeep}
+use Rattle.pg_slice_back.specs.pg_slice_passes.Given.{HasLandmarks, reference_of}
 use Rattle.pg_slice_walk.specs.Chains.{AreHeld, AreOlder}
 use Rattle.pg_slice_walk.proofs.holders.holders.Given as goal
 
@@ -14,5 +14,5 @@ invariant-loop-n l =
     × (length l.holders.items ≡ l.n)
     × AreOlder l.holders.items
     × ((u : ℕ) → slice_index_or l.tops.items u 0 ≤ l.n)
-    × ((p : NumberedProgram) (regions : Regions) (gated : List InstrId) (input : List ℤ) → HasLandmarks (reference_of p regions gated input l.t.steps) l.r →
-    ExtentsKeep (reference_of p regions gated input l.t.steps) → AreHeld (reference_of p regions gated input l.t.steps) l.r l.n l.holders.items l.tops.items)
+    × ((p : NumberedProgram) (regions : Regions) (gated : List InstrId) (input : List ℤ) → HasLandmarks (reference_of p regions gated input l.trace.steps) l.reference →
+    ExtentsKeep (reference_of p regions gated input l.trace.steps) → AreHeld (reference_of p regions gated input l.trace.steps) l.reference l.n l.holders.items l.tops.items)

@@ -2,7 +2,7 @@ use Rattle.std.proofs.Common.{◌≡◌, ◌<◌, ℕ, suc, List, [], ◌∷◌,
 use Rattle.std.specs.Prelude.{slice_index_or}
 use Rattle.std.specs.Option.{option_to_list}
 use Rattle.pg_slice_rules.specs.Known.{Taken}
-use Rattle.pg_slice_decisions.specs.Steps.{taken_by}
+use Rattle.pg_slice_back.specs.pg_slice_decisions.Steps.{taken_by}
 use Rattle.pg_slice_walk.specs.Chains.{AreOlder}
 use Rattle.pg_slice_walk.specs.Settled.{ArePinned, AreSettled, Leads}
 use Rattle.pg_slice_walk.proofs.SettledWithMore.{pinned_here, pinned_more, settled_set, settled_stays}
@@ -28,7 +28,7 @@ pub loop-b-init : goal.loop-b-init
 loop-b-init c =
     let u = c.in_ok-open.ensures in
     record {
-      left_open = (u.0, u.1, u.2 (taken_by c.args.d.now) (subst (λ l. AreSettled c.args.holders.now (taken_by c.args.d.now) l) (sym c.as_slice.ensures.value) c.requires.settled));
+      left_open = (u.0, u.1, u.2 (taken_by c.args.decisions.now) (subst (λ l. AreSettled c.args.walk.now.holders.now (taken_by c.args.decisions.now) l) (sym c.as_slice.ensures.value) c.requires.settled));
       settled = c.requires.settled;
       size = c.requires.size;
       left = omega arith;
@@ -38,19 +38,19 @@ loop-b-init c =
 pub decide-requires : goal.decide-requires
 decide-requires c =
     let v = c.loop-b.invariant in
-    let l = last_of c.args.holders.now (taken_by c.loop-b.d) c.args.n c.loop-b.open.items c.pop.new.self.items c.pop.result c.in-Some.b c.requires.older c.in-Some.is c.pop.ensures.items v.left_open in
+    let l = last_of c.args.walk.now.holders.now (taken_by c.loop-b.decisions) c.args.number c.loop-b.open.items c.pop.new.self.items c.pop.result c.in-Some.b c.requires.older c.in-Some.is c.pop.ensures.items v.left_open in
     let a = l.earlier in
     (_, v.size, omega (arith, a, c.requires.number))
 
 pub loop-b-preserved : goal.loop-b-preserved
 loop-b-preserved c =
     let v = c.loop-b.invariant in
-    let hs = c.args.holders.now in
-    let old = taken_by c.loop-b.d in
-    let new = taken_by c.decide.new.d in
+    let hs = c.args.walk.now.holders.now in
+    let old = taken_by c.loop-b.decisions in
+    let new = taken_by c.decide.new.decisions in
     let b = c.in-Some.b in
     let k = c.decide.ensures in
-    let l = last_of hs old c.args.n c.loop-b.open.items c.pop.new.self.items c.pop.result b c.requires.older c.in-Some.is c.pop.ensures.items v.left_open in
+    let l = last_of hs old c.args.number c.loop-b.open.items c.pop.new.self.items c.pop.result b c.requires.older c.in-Some.is c.pop.ensures.items v.left_open in
     let here = pinned_more hs old new (slice_index_or hs b 0) k.kept l.older in
     let p = k.pinned c.if-decide.false in
     let a = v.left in
@@ -60,7 +60,7 @@ loop-b-preserved c =
       settled = settled_set hs new c.loop-b.settled.items c.set_mark.new.marks.items b p here c.set_mark.ensures.only (settled_stays hs old new c.loop-b.settled.items k.kept v.settled);
       size = k.size _ v.size;
       left = omega (arith, a, z);
-      behind = λ R e m told q own w. decided R c.args.r.now hs c.args.counts.now told c.args.n m q c.args.thread own c.pop.new.self.items b l.leads c.loop-b.w c.decide.new.w old new e k.less
+      behind = λ R e m told q own w. decided R c.args.walk.now.reference.now hs c.args.walk.now.counts.now told c.args.number m q c.args.thread.0 own c.pop.new.self.items b l.leads c.loop-b.demanded c.decide.new.demanded old new e k.less
           k.owed l.older (v.behind R e m told q own w);
     }
 
@@ -71,33 +71,33 @@ pub returns-then-decide-clause-left : goal.returns-then-decide-clause-left
 returns-then-decide-clause-left c = let a = c.loop-b.invariant.left in let b = c.decide.ensures.left in omega (arith, a, b)
 
 pub returns-then-decide-clause-settled : goal.returns-then-decide-clause-settled
-returns-then-decide-clause-settled c = settled_stays c.args.holders.now (taken_by c.loop-b.d) (taken_by c.decide.new.d) c.loop-b.settled.items c.decide.ensures.kept c.loop-b.invariant.settled
+returns-then-decide-clause-settled c = settled_stays c.args.walk.now.holders.now (taken_by c.loop-b.decisions) (taken_by c.decide.new.decisions) c.loop-b.settled.items c.decide.ensures.kept c.loop-b.invariant.settled
 
 pub returns-then-decide-clause-earlier : goal.returns-then-decide-clause-earlier
 returns-then-decide-clause-earlier c =
-    (last_of c.args.holders.now (taken_by c.loop-b.d) c.args.n c.loop-b.open.items c.pop.new.self.items c.pop.result c.in-Some.b c.requires.older c.in-Some.is c.pop.ensures.items
+    (last_of c.args.walk.now.holders.now (taken_by c.loop-b.decisions) c.args.number c.loop-b.open.items c.pop.new.self.items c.pop.result c.in-Some.b c.requires.older c.in-Some.is c.pop.ensures.items
     c.loop-b.invariant.left_open).earlier
 
 pub returns-then-decide-clause-behind : goal.returns-then-decide-clause-behind
 returns-then-decide-clause-behind c = λ R e m told q own w.
     let v = c.loop-b.invariant in
     let k = c.decide.ensures in
-    let l = last_of c.args.holders.now (taken_by c.loop-b.d) c.args.n c.loop-b.open.items c.pop.new.self.items c.pop.result c.in-Some.b c.requires.older c.in-Some.is c.pop.ensures.items v.left_open in
-    decided R c.args.r.now c.args.holders.now c.args.counts.now told c.args.n m q c.args.thread own c.pop.new.self.items c.in-Some.b l.leads c.loop-b.w c.decide.new.w
-    (taken_by c.loop-b.d) (taken_by c.decide.new.d) e k.less k.owed l.older
+    let l = last_of c.args.walk.now.holders.now (taken_by c.loop-b.decisions) c.args.number c.loop-b.open.items c.pop.new.self.items c.pop.result c.in-Some.b c.requires.older c.in-Some.is c.pop.ensures.items v.left_open in
+    decided R c.args.walk.now.reference.now c.args.walk.now.holders.now c.args.walk.now.counts.now told c.args.number m q c.args.thread.0 own c.pop.new.self.items c.in-Some.b l.leads c.loop-b.demanded c.decide.new.demanded
+    (taken_by c.loop-b.decisions) (taken_by c.decide.new.decisions) e k.less k.owed l.older
     (v.behind R e m told q own w)
 
 pub returns-then-decide-clause-passed : goal.returns-then-decide-clause-passed
 returns-then-decide-clause-passed c = λ R e m told q own w.
     let v = c.loop-b.invariant in
     let k = c.decide.ensures in
-    let l = last_of c.args.holders.now (taken_by c.loop-b.d) c.args.n c.loop-b.open.items c.pop.new.self.items c.pop.result c.in-Some.b c.requires.older c.in-Some.is c.pop.ensures.items v.left_open in
-    passed_over R c.args.r.now c.args.holders.now c.args.counts.now told c.args.n m q c.args.thread own c.pop.new.self.items c.in-Some.b l.leads c.loop-b.w c.decide.new.w (taken_by c.loop-b.d)
-    (taken_by c.decide.new.d) e k.less k.owed l.older
+    let l = last_of c.args.walk.now.holders.now (taken_by c.loop-b.decisions) c.args.number c.loop-b.open.items c.pop.new.self.items c.pop.result c.in-Some.b c.requires.older c.in-Some.is c.pop.ensures.items v.left_open in
+    passed_over R c.args.walk.now.reference.now c.args.walk.now.holders.now c.args.walk.now.counts.now told c.args.number m q c.args.thread.0 own c.pop.new.self.items c.in-Some.b l.leads c.loop-b.demanded c.decide.new.demanded (taken_by c.loop-b.decisions)
+    (taken_by c.decide.new.decisions) e k.less k.owed l.older
     (k.passes c.if-decide.true) (v.behind R e m told q own w)
 
 pub returns-then-decide-clause-words : goal.returns-then-decide-clause-words
 returns-then-decide-clause-words c = λ R e m told q own words a.
-    let l = last_of c.args.holders.now (taken_by c.loop-b.d) c.args.n c.loop-b.open.items c.pop.new.self.items c.pop.result c.in-Some.b c.requires.older c.in-Some.is c.pop.ensures.items
+    let l = last_of c.args.walk.now.holders.now (taken_by c.loop-b.decisions) c.args.number c.loop-b.open.items c.pop.new.self.items c.pop.result c.in-Some.b c.requires.older c.in-Some.is c.pop.ensures.items
     c.loop-b.invariant.left_open in
-    skip_words R c.args.r.now c.args.holders.now c.args.counts.now told c.args.n m q c.pop.new.self.items c.in-Some.b l.leads e words a
+    skip_words R c.args.walk.now.reference.now c.args.walk.now.holders.now c.args.walk.now.counts.now told c.args.number m q c.pop.new.self.items c.in-Some.b l.leads e words a

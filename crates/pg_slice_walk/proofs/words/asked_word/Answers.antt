@@ -10,4 +10,4 @@ returns-in-Some-clause-asked c = if_weaker c.asked_by.result (λ u h R d x count
     h R d x c.args.step.now counts m st call (if_is c.event_in.result c.in-Some.e (λ (v : Event). c.args.step.now.kind ≡ kinds.Event v) c.in-Some.is c.event_in.ensures.some) present met) c.asked_by.ensures.asked
 
 pub returns-in-None-clause-less : goal.returns-in-None-clause-less
-returns-in-None-clause-less c = less_itself c.args.w.now
+returns-in-None-clause-less c = less_itself c.args.demanded.now

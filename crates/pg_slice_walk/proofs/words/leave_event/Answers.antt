@@ -5,12 +5,12 @@ use Rattle.pg_slice_walk.proofs.words.leave_event.Goals as goal
 pub returns-then-is_exit : goal.returns-then-is_exit
 returns-then-is_exit c = λ R e p r x step counts v n m st call op kind exit threads words met.
     exited_met R e p r x step counts n m st v kind (exit ∙ c.is_exit.ensures.yes c.if-is_exit.true) c.args.at call c.args.op.now op c.args.words.now.items c.leave_exit.new.words.items
-    c.args.w.now c.leave_exit.new.w c.leave_exit.ensures.rest c.in_ok-leave_exit.ensures.met words met
+    c.args.demanded.now c.leave_exit.new.demanded c.leave_exit.ensures.rest c.in_ok-leave_exit.ensures.met words met
 
 pub returns-then-is_create : goal.returns-then-is_create
 returns-then-is_create c = λ R e p r x step counts v n m st call op kind create threads words met.
     created_met R e p r x step counts n m st v kind (create ∙ c.is_create.ensures.yes c.if-is_create.true) c.args.at call c.args.op.now op c.args.threads threads c.args.words.now.items
-    c.leave_created.new.words.items c.args.w.now c.leave_created.new.w c.leave_created.ensures.rest c.in_ok-leave_created.ensures.met words met
+    c.leave_created.new.words.items c.args.demanded.now c.leave_created.new.demanded c.leave_created.ensures.rest c.in_ok-leave_created.ensures.met words met
 
 pub returns : goal.returns
 returns c = λ R e p r x step counts v n m st call op kind other threads words met. (

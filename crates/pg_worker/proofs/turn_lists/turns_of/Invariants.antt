@@ -1,6 +1,6 @@
 use Rattle.std.proofs.Common.{◌≡◌, ◌++◌, drop}
-use Rattle.pg_law_runs.specs.Deeds.{owners_of}
-use Rattle.pg_law_course.specs.Course.{turns_from, turns_of}
+use Rattle.pg_seats.specs.pg_law_runs.Deeds.{owners_of}
+use Rattle.pg_seats.specs.pg_law_course.Course.{turns_from, turns_of}
 use Rattle.pg_worker.proofs.turn_lists.turns_of.Given as goal
 
 abbrev pub invariant-loop-number : goal.invariant-loop-number

@@ -7,13 +7,13 @@ use Rattle.pg_check_types.proofs.table.TypeTable.add.Goals as goal
 
 pub invariant_of-self : goal.invariant_of-self
 invariant_of-self c =
-    added_table c.args.self.now _ c.args.shape c.args.layout (subst (λ x. IsTable x) c.self.view_is c.self.invariant) c.requires.refers c.requires.layout
+    added_table c.args.self.now _ c.args.shape c.args.layout (subst (λ x. IsTable x) c.self.view_is c.self.invariant) c.requires.refers c.requires.layout c.requires.shorter
     (added_seen c.self.inside.below.now.entries c.self.inside.more.entries c.place_of.new.shapes.entries c.args.self.now c.args.shape c.args.layout c.self.view_is
     (absent_shape _ c.args.shape c.in-None.ensures.index) c.place_of.ensures.entries)
 
 pub invariant_of-self-in-None : goal.invariant_of-self-in-None
 invariant_of-self-in-None c =
-    added_table c.args.self.now _ c.args.shape c.args.layout (subst (λ x. IsTable x) c.self.view_is c.self.invariant) c.requires.refers c.requires.layout
+    added_table c.args.self.now _ c.args.shape c.args.layout (subst (λ x. IsTable x) c.self.view_is c.self.invariant) c.requires.refers c.requires.layout c.requires.shorter
     (added_seen c.self.inside.below.now.entries c.self.inside.more.entries c.place_of.new.shapes.entries c.args.self.now c.args.shape c.args.layout c.self.view_is
     (absent_shape _ c.args.shape c.in-None.ensures.index) c.place_of.ensures.entries)
 
@@ -38,7 +38,7 @@ returns-in-Some-clause-found c =
 pub returns-in_ok-place-in-None-clause-found : goal.returns-in_ok-place-in-None-clause-found
 returns-in_ok-place-in-None-clause-found c =
     added_found c.args.self.now _ c.args.shape c.args.layout (c.len.result + c.in_ok-place-in-None.place)
-    (subst (λ x. IsTable x) c.self.view_is c.self.invariant) c.requires.refers c.requires.layout
+    (subst (λ x. IsTable x) c.self.view_is c.self.invariant) c.requires.refers c.requires.layout c.requires.shorter
     (added_seen c.self.inside.below.now.entries c.self.inside.more.entries c.place_of.new.shapes.entries c.args.self.now c.args.shape c.args.layout c.self.view_is
     (absent_shape _ c.args.shape c.in-None.ensures.index) c.place_of.ensures.entries)
     (key_above c.self.inside.below.now.entries c.place_of.new.shapes.entries (c.len.result + c.in_ok-place-in-None.place) c.in_ok-place-in-None.place c.args.shape

@@ -1,6 +1,6 @@
 use Rattle.std.proofs.Common.{◌≡◌, ℕ, ◌<◌, length}
 use Rattle.std.specs.Prelude.{slice_get, slice_index}
-use Rattle.pg_num.specs.declared.limits.TheConstants.{THREAD_LIMIT}
+use Rattle.pg_worker.specs.pg_num.declared.limits.TheConstants.{THREAD_LIMIT}
 use Rattle.pg_crew.specs.Workers.{done_by}
 use Rattle.pg_crew.proofs.counts.Done.of.Given as goal
 

@@ -1,6 +1,6 @@
 use Rattle.std.proofs.Common.{◌<◌, sym, ◌∙◌, arith}
-use Rattle.pg_num.specs.declared.limits.TheConstants.{THREAD_LIMIT}
-use Rattle.pg_ir.specs.declared.request.Request.TheVariants as requests
+use Rattle.pg_run_trace.specs.pg_num.declared.limits.TheConstants.{THREAD_LIMIT}
+use Rattle.pg_run_trace.specs.pg_ir.declared.request.Request.TheVariants as requests
 use Rattle.pg_run.proofs.Completed.{refused}
 use Rattle.pg_run.proofs.Steps.{room}
 use Rattle.pg_run.proofs.state.MachineState.create.Goals as goal

@@ -1,5 +1,5 @@
 use Rattle.std.proofs.Common.{◌≡◌, rules, refl, ◌∙◌}
-use Rattle.pg_ir.specs.declared.request.Request.TheVariants as requests
+use Rattle.pg_run_trace.specs.pg_ir.declared.request.Request.TheVariants as requests
 use Rattle.pg_run.specs.Texts.{printed_by}
 use Rattle.pg_run.proofs.Completed.{out_first, putchar_first}
 use Rattle.pg_run.proofs.state.MachineState.event.Goals as goal

@@ -4,5 +4,5 @@ use Rattle.pg_session_runner.specs.Runs.{Running, rotating, runs_by}
 use Rattle.pg_session_runner.proofs.runner.ProgramRunnerRunner.run_along.Goals as goal
 
 pub ran_along-requires-clause-entry : goal.ran_along-requires-clause-entry
-ran_along-requires-clause-entry g c =
+ran_along-requires-clause-entry g c = λ _ _.
     (rotating c.self.inside.quantum, subst (λ (s : Running). IsEntryOf (runs_by s.subject.program s.subject.way) c.args.entry.now) (sym c.self.view_is) c.requires.entry)

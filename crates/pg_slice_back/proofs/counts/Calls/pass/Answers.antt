@@ -11,7 +11,7 @@ returns c = λ R n m s program instr did begun stacks.
     let tops = c.set_top.new.tops.items in
     let e = c.made.ensures in
     let new : Calls = record { held = c.push_made.new.held; tops = c.push_made.new.tops } in
-    pass_is R n m s c.args.x.now instr begun c.args.p.now program c.args.step.now.kind (ap (λ (z : Step). z.kind) did) c.args.self.now new c.top_after.new.held.items tops c.args.step.now.thread.0
+    pass_is R n m s c.args.instr.now instr begun c.args.program.now program c.args.step.now.kind (ap (λ (z : Step). z.kind) did) c.args.self.now new c.top_after.new.held.items tops c.args.step.now.thread.0
     c.top_at-before.result c.in_ok-top.top (ap (λ (z : Step). z.thread.0) (sym did)) (c.top_at-before.ensures
     ∙ ap (λ (xs : List ℕ). slice_index_or xs c.args.step.now.thread.0 0) c.as_slice.ensures.value)
     c.in_ok-top.ensures.kept c.in_ok-top.ensures.stack c.set_top.ensures c.in_ok-push_made.ensures.kept

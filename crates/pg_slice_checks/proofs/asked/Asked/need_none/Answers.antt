@@ -1,6 +1,6 @@
 use Rattle.std.proofs.Common.{ap, length}
-use Rattle.pg_slice_values.specs.declared.symbolic_node.SymbolicNode.TheVariants as symbolic_node
-use Rattle.pg_slice_values.specs.SymbolicNodes.{IsSymbolicNode, number_by}
+use Rattle.pg_slice_memory.specs.pg_slice_values.declared.symbolic_node.SymbolicNode.TheVariants as symbolic_node
+use Rattle.pg_slice_memory.specs.pg_slice_values.SymbolicNodes.{IsSymbolicNode, number_by}
 use Rattle.pg_slice_checks.proofs.OneNeedMore.{many_checks}
 use Rattle.pg_slice_checks.proofs.asked.Asked.need_none.Goals as goal
 

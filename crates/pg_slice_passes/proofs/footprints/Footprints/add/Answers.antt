@@ -1,4 +1,4 @@
-use Rattle.pg_law_least.specs.Footprints.{access_footprints, region_footprints}
+use Rattle.pg_law_demands.specs.pg_law_least.Footprints.{access_footprints, region_footprints}
 use Rattle.pg_slice_passes.proofs.FootprintOrder.{adds_both}
 use Rattle.pg_slice_passes.proofs.RegionFootprints.{owner_is, then_added, then_owned}
 use Rattle.pg_slice_passes.proofs.footprints.Footprints.add.Goals as goal

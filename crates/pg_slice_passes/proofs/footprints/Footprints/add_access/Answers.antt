@@ -1,6 +1,6 @@
 use Rattle.std.proofs.Common.{List, ◌++◌, map, ap, sym, ◌∙◌}
 use Rattle.pg_slice_conflicts.specs.declared.footprint.Footprint.{Footprint}
-use Rattle.pg_law_least.specs.Footprints.{access_footprints}
+use Rattle.pg_law_demands.specs.pg_law_least.Footprints.{access_footprints}
 use Rattle.pg_slice_passes.proofs.FootprintOrder.{adds_nothing}
 use Rattle.pg_slice_passes.proofs.RegionFootprints.{no_access, none_added, footprint_of_access}
 use Rattle.pg_slice_passes.proofs.footprints.Footprints.add_access.Goals as goal

@@ -3,7 +3,7 @@ use Rattle.std.specs.Prelude.{is_some}
 use Rattle.pg_slice_rules.specs.Freeable.{FreeAccess, FreeRegion}
 use Rattle.pg_slice_rules.specs.Known.{Seen}
 use Rattle.pg_slice_conflicts.specs.declared.footprint.Footprint.{Footprint}
-use Rattle.pg_law_least.specs.Footprints.{region_footprints}
+use Rattle.pg_law_demands.specs.pg_law_least.Footprints.{region_footprints}
 use Rattle.pg_slice_replay.specs.Kept.{landmark_at}
 use Rattle.pg_slice_replay.specs.Landmarks.{Landmark}
 use Rattle.pg_slice_passes.specs.Passes.{IsTimed}

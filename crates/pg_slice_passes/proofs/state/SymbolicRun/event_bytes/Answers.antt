@@ -2,7 +2,7 @@ use Rattle.std.proofs.Common.{◌≡◌, ℕ, List, refl, ap, sym, ◌∙◌}
 use Rattle.std.proofs.lemmas.Result.{on_ok_weaker}
 use Rattle.pg_slice_rules.specs.Known.{bytes_by}
 use Rattle.pg_slice_rules.specs.SymbolicValues.{Symbolic}
-use Rattle.pg_slice_memory.specs.Changes.{symbolics_of}
+use Rattle.pg_slice_checks.specs.pg_slice_memory.Changes.{symbolics_of}
 use Rattle.pg_slice_registers.specs.SymbolicRegisterNodes.{registers_by}
 use Rattle.pg_slice_registers.proofs.KeptValues.{symbolic_nodes_kept}
 use Rattle.pg_slice_registers.proofs.ThreadsMade.{threads_stay}

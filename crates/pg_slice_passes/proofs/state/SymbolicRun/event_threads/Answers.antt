@@ -1,7 +1,7 @@
 use Rattle.std.proofs.Common.{length, refl}
 use Rattle.std.proofs.lemmas.Result.{on_ok_weaker}
 use Rattle.pg_slice_rules.specs.Known.{after_event, on_thread, threads_after}
-use Rattle.pg_slice_memory.proofs.ByteNodes.{names_more}
+use Rattle.pg_slice_checks.proofs.of_pg_slice_memory.ByteNodes.{names_more}
 use Rattle.pg_slice_values.specs.SymbolicNodes.{symbolic_by}
 use Rattle.pg_slice_values.proofs.GrowingNodes.{grew_length, grew_then}
 use Rattle.pg_slice_registers.proofs.KeptValues.{symbolic_nodes_kept}

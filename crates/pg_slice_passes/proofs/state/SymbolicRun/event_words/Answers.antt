@@ -2,7 +2,7 @@ use Rattle.std.proofs.Common.{◌≡◌, [], List, length, slice_index_or, refl,
 use Rattle.std.proofs.lemmas.Result.{on_ok_weaker}
 use Rattle.pg_slice_rules.specs.Known as along
 use Rattle.pg_slice_rules.specs.SymbolicValues.{Symbolic}
-use Rattle.pg_slice_memory.proofs.ByteNodes.{names_more}
+use Rattle.pg_slice_checks.proofs.of_pg_slice_memory.ByteNodes.{names_more}
 use Rattle.pg_slice_values.specs.declared.symbolic_node.SymbolicNode.{SymbolicNode}
 use Rattle.pg_slice_values.proofs.GrowingNodes.{grew_length}
 use Rattle.pg_slice_registers.specs.SymbolicRegisterNodes.{AreSymbolicNodes, CallList, registers_by, top_symbolic_nodes}

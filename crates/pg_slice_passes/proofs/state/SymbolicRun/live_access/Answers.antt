@@ -5,8 +5,8 @@ use Rattle.pg_ir.specs.declared.value.Value.{Value}
 use Rattle.pg_num.specs.declared.width.Width.{Width}
 use Rattle.pg_slice_rules.specs.Known.{after_access, bytes_stored, load_of, on_thread, with_top}
 use Rattle.pg_slice_rules.specs.SymbolicValues.{Symbolic}
-use Rattle.pg_slice_memory.specs.Changes.{symbolics_of}
-use Rattle.pg_slice_memory.proofs.ByteNodes.{names_more}
+use Rattle.pg_slice_checks.specs.pg_slice_memory.Changes.{symbolics_of}
+use Rattle.pg_slice_checks.proofs.of_pg_slice_memory.ByteNodes.{names_more}
 use Rattle.pg_slice_values.specs.declared.symbolic_node.SymbolicNode.{SymbolicNode}
 use Rattle.pg_slice_values.specs.SymbolicNodes.{symbolic_by}
 use Rattle.pg_slice_values.proofs.GrowingNodes.{grew_length}

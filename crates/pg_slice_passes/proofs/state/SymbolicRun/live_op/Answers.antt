@@ -5,8 +5,8 @@ use Rattle.pg_slice_rules.specs.Known.{bytes_freed, region_of}
 use Rattle.pg_slice_rules.specs.Moments.{instr_in}
 use Rattle.pg_slice_rules.specs.SymbolicValues.{Symbolic}
 use Rattle.pg_slice_decisions.specs.Steps.{taken_by}
-use Rattle.pg_slice_memory.specs.Changes.{symbolics_of}
-use Rattle.pg_slice_memory.proofs.ByteNodes.{names_more}
+use Rattle.pg_slice_checks.specs.pg_slice_memory.Changes.{symbolics_of}
+use Rattle.pg_slice_checks.proofs.of_pg_slice_memory.ByteNodes.{names_more}
 use Rattle.pg_slice_values.proofs.GrowingNodes.{grew_length}
 use Rattle.pg_slice_registers.proofs.KeptValues.{symbolic_nodes_kept}
 use Rattle.pg_slice_passes.proofs.KeptKnowledge.{bytes_in, knows_more, on_ok_each, threads_in}

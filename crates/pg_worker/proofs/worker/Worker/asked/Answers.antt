@@ -1,5 +1,5 @@
 use Rattle.std.proofs.Common.{◌∙◌, refl}
-use Rattle.pg_run_thread.specs.declared.action.Action.TheVariants as actions
+use Rattle.pg_seats.specs.pg_run_thread.declared.action.Action.TheVariants as actions
 use Rattle.pg_worker.specs.Standing.{run_in}
 use Rattle.pg_worker.proofs.Segments.{ends_there, stands_there}
 use Rattle.pg_worker.proofs.worker.Worker.asked.Goals as goal

@@ -1,7 +1,7 @@
 use Rattle.std.proofs.Common.{ap, sym}
-use Rattle.pg_run_thread.specs.declared.action.Action.TheVariants as actions
-use Rattle.pg_run_thread.specs.Told.{id_of}
-use Rattle.pg_law_runs.specs.Deeds.{is_event_at}
+use Rattle.pg_seats.specs.pg_run_thread.declared.action.Action.TheVariants as actions
+use Rattle.pg_seats.specs.pg_run_thread.Told.{id_of}
+use Rattle.pg_seats.specs.pg_law_runs.Deeds.{is_event_at}
 use Rattle.pg_worker.proofs.TurnKinds.{all_done, bare_parts, event_due, replied}
 use Rattle.pg_worker.proofs.worker.Worker.bare.Goals as goal
 

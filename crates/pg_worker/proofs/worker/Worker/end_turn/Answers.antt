@@ -1,5 +1,5 @@
 use Rattle.std.proofs.Common.{◌+◌, refl, subst, sym}
-use Rattle.pg_run_thread.specs.declared.action.Action.{Action}
+use Rattle.pg_seats.specs.pg_run_thread.declared.action.Action.{Action}
 use Rattle.pg_worker.specs.Standing.{HasKept, run_in, table_in}
 use Rattle.pg_worker.proofs.DueTurns.{turned_at, turned_took}
 use Rattle.pg_worker.proofs.worker.Worker.end_turn.Goals as goal

@@ -1,8 +1,8 @@
 use Rattle.std.proofs.Common.{ap, refl}
-use Rattle.pg_run_thread.specs.declared.action.Action.TheVariants as actions
-use Rattle.pg_ir.specs.declared.request.Request.TheVariants as requests
-use Rattle.pg_run_thread.specs.Told.{id_of}
-use Rattle.pg_law_runs.specs.Deeds.{is_event_at}
+use Rattle.pg_seats.specs.pg_run_thread.declared.action.Action.TheVariants as actions
+use Rattle.pg_seats.specs.pg_ir.declared.request.Request.TheVariants as requests
+use Rattle.pg_seats.specs.pg_run_thread.Told.{id_of}
+use Rattle.pg_seats.specs.pg_law_runs.Deeds.{is_event_at}
 use Rattle.pg_worker.proofs.TurnKinds.{all_done, event_due, exit_may, put, put_took, replied, thread_inside}
 use Rattle.pg_worker.proofs.worker.Worker.exit.Goals as goal
 

@@ -1,9 +1,9 @@
 use Rattle.std.proofs.Common.{ℕ, ◌<◌, ◌∙◌, Some, ap, arith, refl, subst, sym}
-use Rattle.pg_num.specs.declared.limits.TheConstants.{THREAD_LIMIT}
-use Rattle.pg_run_thread.specs.declared.action.Action.TheVariants as actions
-use Rattle.pg_ir.specs.declared.request.Request.TheVariants as requests
-use Rattle.pg_run_thread.specs.Told.{id_of}
-use Rattle.pg_law_runs.specs.Deeds.{is_event_at}
+use Rattle.pg_seats.specs.pg_num.declared.limits.TheConstants.{THREAD_LIMIT}
+use Rattle.pg_seats.specs.pg_run_thread.declared.action.Action.TheVariants as actions
+use Rattle.pg_seats.specs.pg_ir.declared.request.Request.TheVariants as requests
+use Rattle.pg_seats.specs.pg_run_thread.Told.{id_of}
+use Rattle.pg_seats.specs.pg_law_runs.Deeds.{is_event_at}
 use Rattle.pg_seats.specs.Views.{may_hear, word_there}
 use Rattle.pg_worker.proofs.TurnKinds.{all_done, event_due, join_inside, join_may, join_put, join_small, kept, kept_took, put, put_took, replied}
 use Rattle.pg_worker.proofs.worker.Worker.join.Goals as goal

@@ -1,6 +1,6 @@
 use Rattle.std.proofs.Common.{[], ◌++◌, ◌∙◌, ap}
 use Rattle.std.specs.List.{cons_option}
-use Rattle.pg_law_threads.specs.Effects.{or_old}
+use Rattle.pg_seats.specs.pg_law_threads.Effects.{or_old}
 use Rattle.pg_worker.proofs.DueTurns.{kept_of}
 use Rattle.pg_worker.proofs.worker.Worker.keep.Goals as goal
 

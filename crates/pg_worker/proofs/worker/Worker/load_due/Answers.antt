@@ -1,5 +1,5 @@
 use Rattle.std.proofs.Common.{◌∙◌, ap, refl, sym}
-use Rattle.pg_run_thread.specs.declared.action.Action.TheVariants as actions
+use Rattle.pg_seats.specs.pg_run_thread.declared.action.Action.TheVariants as actions
 use Rattle.pg_seats.specs.Views.{number_there}
 use Rattle.pg_worker.proofs.TurnKinds.{all_done, kept, kept_took, read_answered, read_may, turn_due}
 use Rattle.pg_worker.proofs.worker.Worker.load_due.Goals as goal

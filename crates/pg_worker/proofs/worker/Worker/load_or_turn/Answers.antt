@@ -1,7 +1,7 @@
 use Rattle.std.proofs.Common.{◌∙◌, ap, sym}
-use Rattle.pg_run.specs.MachineStep.{is_gated}
-use Rattle.pg_run_thread.specs.Told.{id_of}
-use Rattle.pg_run_thread.specs.declared.action.Action.TheVariants as actions
+use Rattle.pg_seats.specs.pg_run.MachineStep.{is_gated}
+use Rattle.pg_seats.specs.pg_run_thread.Told.{id_of}
+use Rattle.pg_seats.specs.pg_run_thread.declared.action.Action.TheVariants as actions
 use Rattle.pg_worker.specs.Standing.{run_in}
 use Rattle.pg_worker.proofs.Segments.{stands_there}
 use Rattle.pg_worker.proofs.worker.Worker.load_or_turn.Goals as goal

@@ -1,5 +1,5 @@
 use Rattle.std.proofs.Common.{ℕ, FitsSigned, rules, subst, ap, ◌∙◌, to_z-of_z, w64}
-use Rattle.pg_num.specs.Inputs.{input_at}
+use Rattle.pg_seats.specs.pg_num.Inputs.{input_at}
 use Rattle.pg_worker.specs.Standing.{IsResumed, run_in, table_in}
 use Rattle.pg_worker.proofs.PlainSteps.{read_at}
 use Rattle.pg_worker.proofs.worker.Worker.read.Goals as goal

@@ -1,5 +1,5 @@
 use Rattle.std.proofs.Common.{◌-◌, ◌∙◌, ap, refl, subst, sym, arith}
-use Rattle.pg_run_thread.specs.Step.{next}
+use Rattle.pg_seats.specs.pg_run_thread.Step.{next}
 use Rattle.pg_worker.specs.declared.worker.Worker.{Worker}
 use Rattle.pg_worker.specs.Standing.{HasDone, IsAt, run_in, table_in}
 use Rattle.pg_worker.proofs.PlainSteps.{local_at, took}

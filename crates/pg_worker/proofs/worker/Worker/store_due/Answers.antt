@@ -1,5 +1,5 @@
 use Rattle.std.proofs.Common.{refl}
-use Rattle.pg_run_thread.specs.declared.action.Action.TheVariants as actions
+use Rattle.pg_seats.specs.pg_run_thread.declared.action.Action.TheVariants as actions
 use Rattle.pg_worker.proofs.TurnKinds.{all_done, put, put_answered, put_may, put_small, put_took, turn_due}
 use Rattle.pg_worker.proofs.worker.Worker.store_due.Goals as goal
 

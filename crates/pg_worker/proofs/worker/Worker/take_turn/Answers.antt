@@ -1,6 +1,6 @@
 use Rattle.std.proofs.Common.{◌∙◌, ap, sym}
-use Rattle.pg_run_thread.specs.Told.{id_of}
-use Rattle.pg_law_runs.specs.Deeds.{is_event_at}
+use Rattle.pg_seats.specs.pg_run_thread.Told.{id_of}
+use Rattle.pg_seats.specs.pg_law_runs.Deeds.{is_event_at}
 use Rattle.pg_worker.proofs.TurnKinds.{other_event}
 use Rattle.pg_worker.proofs.worker.Worker.take_turn.Goals as goal
 

@@ -1,5 +1,5 @@
 use Rattle.std.proofs.Common.{◌∙◌, ap}
-use Rattle.pg_run_thread.specs.Step.{next}
+use Rattle.pg_seats.specs.pg_run_thread.Step.{next}
 use Rattle.pg_worker.specs.Standing.{next_turn_of, run_in, table_in, waits_there}
 use Rattle.pg_worker.proofs.DueTurns.{due_stands}
 use Rattle.pg_worker.proofs.Segments.{still_fiber, still_goes, still_left, still_turn, took_late}

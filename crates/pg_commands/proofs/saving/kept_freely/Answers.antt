@@ -1,0 +1,20 @@
+use Rattle.std.proofs.Common.{ap, ◌∙◌}
+use Rattle.pg_commands.specs.Commands.{CrewsMake}
+use Rattle.pg_commands.specs.Sessions.{rounds_told}
+use Rattle.pg_commands.proofs.SavingsEnd.{done_rounds, saving_of}
+use Rattle.pg_commands.proofs.saving.kept_freely.Goals as goal
+
+pub returns : goal.returns
+returns g c =
+    saving_of (CrewsMake (rounds_told _) _) c.new-runner.result.subject _ _ _ _ c.new-runner.ensures.program c.new-runner.ensures.way (record {
+      done = done_rounds c.new-runner.result.subject _ _ _ _ _ _ _ c.in_ok-first.ensures
+          (record { first = c.new-runner.ensures.rounds ∙ ap g.G.FreeCrew.rounds c.replace-recorders.ensures.value; last = c.into_crews-crews.ensures.rounds })
+          (record { first = c.new-runner.ensures.turns ∙ ap g.C.Crew.turns c.replace-workers.ensures.value; last = c.into_crews-crews.ensures.turns })
+          c.kept_by-kept.ensures.done;
+      no_write = c.kept_by-kept.ensures.no_write;
+      input_limit = c.kept_by-kept.ensures.input_limit;
+      read_cause = c.kept_by-kept.ensures.read_cause;
+      read_within = c.kept_by-kept.ensures.read_fault_within;
+      read_count = c.kept_by-kept.ensures.read_count;
+      takes = c.kept_by-kept.ensures.takes;
+    })

@@ -1,0 +1,11 @@
+//! Whole runs by workers: a run along a good schedule is made ready in a room, a crew runs its workers round by round, and the room
+//! comes back at rest.
+#![tactic(auto)]
+
+pub mod laws;
+mod prepared;
+
+pub use pg_rounds::pg_crew::{AnyHook, ByLength, Crew, OneByOne, Together};
+pub use pg_rounds::pg_room::{NotPrepared, Room};
+pub use pg_rounds::{Ended, pg_ir, pg_num, pg_run, pg_run_trace};
+pub use prepared::{Prepared, prepare, prepare_in};

@@ -1,0 +1,10 @@
+use Rattle.std.proofs.Common.{◌≡◌}
+use Rattle.pg_crew.specs.pg_worker.Standing.{run_in}
+use Rattle.pg_room.specs.Sweeping.{IsSweptBelow}
+use Rattle.pg_room.proofs.sweeping.wipe_page.Given as goal
+
+abbrev pub invariant-loop-granule : goal.invariant-loop-granule
+invariant-loop-granule l = record {
+  own : (l.pool.table_id ≡ l.fn.pool.table_id) × (l.pool.id ≡ l.fn.pool.id);
+  swept : IsSweptBelow (run_in l.shared) l.granule l.pool.me;
+}

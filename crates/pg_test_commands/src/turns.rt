@@ -1,0 +1,89 @@
+//! What the crew that runs workers counts, through the top call.
+
+use pg_commands::pg_go::{ByLength, Crew, OneByOne, Together};
+use pg_commands::{Status, peregrine};
+use pg_free::Free;
+use pg_io::{MemoryShelf, MemorySink, MemorySource};
+use pg_session_trial::trial_program;
+use std::alloc::{AllocError, Global};
+use std::process::Abort;
+use std::sync::Wait;
+use std::test::Fail;
+use std::thread::Threads;
+
+/// Three lines, of which the first is recorded and the others are answered by reuse, each by a run of 15 turns.
+const LINES: &[u8] = b"1 2 3\n10 20\n1 2 3\n";
+
+fn words_of(alloc: Global, line: &str) -> Result<Vec<String>, AllocError> {
+    let mut words = Vec::new(alloc);
+    for word in line.split_whitespace() {
+        words.push(String::from_str(alloc, word)?)?;
+    }
+    Ok(words)
+}
+
+/// The status of a command on the program of the trial and these bytes of the source. This crew runs workers.
+fn status_of<R: Threads + Wait + Sync, C: Crew + Drop>(
+    rt: &R,
+    alloc: Global,
+    line: &str,
+    input: &[u8],
+    crew: &mut C,
+) -> Result<Status, AllocError> {
+    let words = words_of(alloc, line)?;
+    let name = String::from_str(alloc, "x")?;
+    let mut files = Vec::new(alloc);
+    files.push((name, trial_program().as_bytes().to_vec(alloc)?))?;
+    let mut shelf = MemoryShelf::new(alloc, files, Vec::new(alloc));
+    let mut src = MemorySource::new(input.to_vec(alloc)?, 4_096, Vec::new(alloc));
+    let mut out = MemorySink::new(alloc, 4_000, Vec::new(alloc))?;
+    let mut free = Free::new();
+    Ok(peregrine(
+        rt, alloc, &words, &mut src, &mut shelf, &mut out, &mut free, crew,
+    ))
+}
+
+/// By how much the count of the crew rises with each command, one after another.
+fn expect_turns<R: Threads + Wait + Abort + Sync, C: Crew + Drop>(
+    rt: &R,
+    alloc: Global,
+    crew: &mut C,
+) -> Result<(), Fail> {
+    let program = trial_program().as_bytes();
+    let rows: [(&str, &[u8], Status, u64); 9] = [
+        ("serve x", LINES, Status::Done, 30),
+        ("once 1 2 3", program, Status::Done, 0),
+        ("show x 1 2 3", b"", Status::Done, 0),
+        ("serve x --quantum 0", LINES, Status::Usage, 0),
+        ("serve y", LINES, Status::ShelfFault, 0),
+        ("book x", LINES, Status::Done, 30),
+        ("serve x --free", LINES, Status::Done, 30),
+        ("serve --seed 7 x", LINES, Status::Done, 30),
+        ("trial 7", b"", Status::Done, 7_485),
+    ];
+    for (line, input, status, turns) in rows {
+        let before = crew.count();
+        let ended = status_of(rt, alloc, line, input, crew)?;
+        assert_eq!(rt; ended, status, "of {}", line);
+        assert_eq!(rt; crew.count(), before.saturating_add(turns), "of {}", line);
+    }
+    Ok(())
+}
+
+#[test]
+fn one_by_one(rt: HostRuntime) -> Result<(), Fail> {
+    let mut crew = OneByOne::new(Vec::new(rt.alloc()));
+    expect_turns(&rt, rt.alloc(), &mut crew)
+}
+
+#[test]
+fn together(rt: HostRuntime) -> Result<(), Fail> {
+    let mut crew = Together::new(Vec::new(rt.alloc()));
+    expect_turns(&rt, rt.alloc(), &mut crew)
+}
+
+#[test]
+fn by_length(rt: HostRuntime) -> Result<(), Fail> {
+    let mut crew = ByLength::new(Vec::new(rt.alloc()));
+    expect_turns(&rt, rt.alloc(), &mut crew)
+}
