@@ -1,4 +1,5 @@
 //! Directed graphs: what walks meet before a vertex, and the nearest vertex that separates from others.
+// How goals are searched for: see docs/CONTRIBUTING.md.
 #![tactic(auto)]
 
 mod among;

@@ -1,4 +1,5 @@
 //! The checks of a program text's syntax tree, and the numbered program that it stands for.
+// How goals are searched for: see docs/CONTRIBUTING.md.
 #![tactic(auto)]
 
 mod checking;

@@ -8,8 +8,7 @@ ghost use Rattle.pg_read_ast.specs.Views.{define_of, tree_of};
 ghost use Rattle.pg_check_rules.specs.Earliest.{IsFirstIn};
 ghost use Rattle.pg_check_rules.specs.Conditions.{main_name, has_main, main_refused};
 
-use pg_check_program::is_main;
-use pg_check_rules::{CheckKind, CheckRefusal, place_if, refusal_at};
+use pg_check_rules::{CheckKind, CheckRefusal, is_main, place_if, refusal_at};
 use pg_read_ast::{DefineItem, Module};
 use pg_read_lex::Span;
 
@@ -18,7 +17,7 @@ fn has_main(items: &[DefineItem]) -> bool
     ensures { result ≡ list_any (λ (d : Definition). bytes_eq d.name.text main_name) (map define_of items.now) }
 {
     for item in items {
-        if is_main(item) {
+        if is_main(item.name.text.as_slice()) {
             return true;
         }
     }

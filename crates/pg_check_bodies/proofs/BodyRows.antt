@@ -10,6 +10,7 @@ use Rattle.pg_read_ast.specs.Syntax.{NamedType, Line, Block, Definition, Tree}
 use Rattle.pg_read_ast.specs.Numbers.{numbered}
 use Rattle.pg_read_ast.specs.Views.{block_of, tree_of, ty_of}
 use Rattle.pg_check_types.specs.NameIndex.{known_place}
+use Rattle.pg_check_types.specs.NumberedTypes.{named_types}
 use Rattle.pg_check_types.specs.Resolved.{resolved}
 use Rattle.pg_check_calls.specs.pg_check_names.declared.naming.OwnNames.{OwnNames}
 use Rattle.pg_check_calls.specs.pg_check_names.Registers.{register_type}
@@ -85,15 +86,16 @@ too_large m lines d o nodes large many over count own b l c n e =
 
 -- ---- lines
 
-pub scope_is : (m : Tree) (d : Definition) (o : OwnNames) (s : LineScope) → tree_of s.values.symbols.now.tree.now ≡ m → AreOwn m.types d o
-    → ((text : List ℕ) → known_place s.values.registers.now text ≡ label_number o.registers.items text) → s.values.types.now ≡ o.types.items
+pub scope_is : (m : Tree) (d : Definition) (o : OwnNames) (s : LineScope) → tree_of s.values.symbols.now.tree.now ≡ m → m.types ≡ named_types s.values.types.now → AreOwn m.types d o
+    → ((text : List ℕ) → known_place s.values.registers.now text ≡ label_number o.registers.items text) → s.values.register_types.now ≡ o.types.items
     → ((text : List ℕ) → known_place s.labels.now text ≡ label_number o.labels.items text) → ty_of s.result.now ≡ d.result → IsLineScope s (scope_of m (numbered m.types d))
 unfolding numbered
-scope_is m d o s t own k y l r = record {
+scope_is m d o s t i own k y l r = record {
   values = record {
     tree = t;
+    types = i;
     known = λ text. k text ∙ ap (λ ns. label_number ns text) (own_registers m.types d o own) ∙ register_place (registers_of m.types (numbered m.types d)) text;
-    types = ap (λ ts. map (register_type m.types) ts) y ∙ sym (register_types m.types o.registers.items o.types.items own.lengths) ∙ ap (λ rs. map (λ (x : Register). x.ty) rs) own.registers;
+    registers = ap (λ ts. map (register_type m.types) ts) y ∙ sym (register_types m.types o.registers.items o.types.items own.lengths) ∙ ap (λ rs. map (λ (x : Register). x.ty) rs) own.registers;
   };
   labels = λ text. l text ∙ ap (λ ns. label_number ns text) own.labels;
   result = ap (λ x. resolved m.types x) (sym r);

@@ -64,7 +64,7 @@ fn wrong_sources(
 {
     let before = predecessors(alloc, blocks, block.label)?;
     let index = index_references(alloc, before.as_slice())?;
-    // As the result itself the call would be one goal over success and failure, which is slow to prove.
+    // In two lines for the proof: see docs/CONTRIBUTING.md.
     let wrong = all_wrong_sources(alloc, labels, &index, before.as_slice(), block.lines)?;
     Ok(wrong)
 }

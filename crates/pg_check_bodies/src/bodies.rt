@@ -42,7 +42,7 @@ pub fn first_of_bodies(
     requires { named_types types.now ≡ (tree_of symbols.now.tree.now).types }
     ensures first { IfOk result (λ o. IsFirstAmong (bodies (tree_of symbols.now.tree.now) (tree_of symbols.now.tree.now).functions 0) o) }
 {
-    // As the result itself the call would be one goal over success and failure, which is slow to prove.
+    // In two lines for the proof: see docs/CONTRIBUTING.md.
     let found = first_among(alloc, types, symbols, symbols.tree.functions.as_slice())?;
     Ok(found)
 }

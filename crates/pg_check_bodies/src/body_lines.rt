@@ -21,15 +21,14 @@ use std::alloc::{AllocError, Global};
 /// The first refusal of lines.
 fn lines_refusal(
     scope: &LineScope<'_>,
-    types: &TypeNumbers<'_>,
     lines: &[LineNode],
 ) -> Result<Option<CheckRefusal>, AllocError>
-    ensures first { (g : Scope) → IsLineScope scope.now g → g.tree.types ≡ named_types types.now →
+    ensures first { (g : Scope) → IsLineScope scope.now g →
         IfOk result (λ o. IsFirstIn (all_of (line_refused g) (map line_of lines.now)) o) }
 {
     let mut found = None;
     for line in lines {
-        let own = line_refusal(scope, types, line)?;
+        let own = line_refusal(scope, line)?;
         found = earlier_refusal(found, own);
     }
     Ok(found)
@@ -38,15 +37,14 @@ fn lines_refusal(
 /// The first refusal of the lines of blocks.
 pub(crate) fn blocks_refusal(
     scope: &LineScope<'_>,
-    types: &TypeNumbers<'_>,
     blocks: &[BlockNode],
 ) -> Result<Option<CheckRefusal>, AllocError>
-    ensures first { (g : Scope) → IsLineScope scope.now g → g.tree.types ≡ named_types types.now →
+    ensures first { (g : Scope) → IsLineScope scope.now g →
         IfOk result (λ o. IsFirstIn (all_of (block_refused g) (map block_of blocks.now)) o) }
 {
     let mut found = None;
     for block in blocks {
-        let own = lines_refusal(scope, types, block.lines.as_slice())?;
+        let own = lines_refusal(scope, block.lines.as_slice())?;
         found = earlier_refusal(found, own);
     }
     Ok(found)

@@ -1,4 +1,5 @@
 //! What the bodies of functions are refused for.
+// How goals are searched for: see docs/CONTRIBUTING.md.
 #![tactic(auto)]
 
 mod blocks;

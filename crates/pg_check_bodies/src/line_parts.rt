@@ -3,7 +3,6 @@
 ghost use Rattle.std.specs.Prelude.{◌≡◌, ◌++◌, Some, IfOk};
 ghost use Rattle.std.specs.List.{flat_map};
 ghost use Rattle.pg_read_ast.specs.Views.{op_of};
-ghost use Rattle.pg_check_types.specs.NumberedTypes.{named_types};
 ghost use Rattle.pg_check_rules.specs.Earliest.{earliest};
 ghost use Rattle.pg_check_rules.specs.TypeConditions.{unmet};
 ghost use Rattle.pg_check_rules.specs.ValueConditions.{Scope};
@@ -17,7 +16,6 @@ use pg_check_calls::pg_check_values::LineScope;
 use pg_check_calls::{call_demands, thread_argument};
 use pg_check_lines::{UseNode, op_demands, operands_of_line};
 use pg_check_rules::earlier;
-use pg_check_types::TypeNumbers;
 use pg_read_ast::OpNode;
 use pg_read_lex::Span;
 use std::alloc::AllocError;
@@ -56,15 +54,11 @@ pub(crate) fn value_operands<'a>(
 }
 
 /// The earliest type that isn't what an instruction asks by itself, or as a call.
-pub(crate) fn unmet_demands(
-    scope: &LineScope<'_>,
-    types: &TypeNumbers<'_>,
-    op: &OpNode,
-) -> Result<Option<Span>, AllocError>
-    ensures place { (g : Scope) → IsLineScope scope.now g → g.tree.types ≡ named_types types.now →
+pub(crate) fn unmet_demands(scope: &LineScope<'_>, op: &OpNode) -> Result<Option<Span>, AllocError>
+    ensures place { (g : Scope) → IsLineScope scope.now g →
         IfOk result (λ o. o ≡ earliest (flat_map (unmet g.tree.types) (op_demands g.tree.types g.result (op_of op.now) ++ call_demands g (op_of op.now)))) }
 {
-    let own = op_demands(types, scope.result, op)?;
-    let arguments = call_demands(scope, types, op)?;
+    let own = op_demands(scope.values.types, scope.result, op)?;
+    let arguments = call_demands(scope, op)?;
     Ok(earlier(own, arguments))
 }

@@ -45,16 +45,15 @@ fn types_in_line<'a>(alloc: Global, op: &'a OpNode) -> Result<Vec<&'a TypeNode>,
 /// The earliest name in a line that nothing has: of a type, a value, a callee or a thread's function.
 fn unknown_in_line(
     scope: &LineScope<'_>,
-    types: &TypeNumbers<'_>,
     written: &[&TypeNode],
     uses: &[UseNode<'_>],
     op: &OpNode,
 ) -> Option<Span>
-    ensures { (g : Scope) → IsLineScope scope.now g → g.tree.types ≡ named_types types.now →
+    ensures { (g : Scope) → IsLineScope scope.now g →
         tys_behind written.now ≡ flat_map types_within (line_types (op_of op.now)) → uses_of uses.now ≡ value_operands g (op_of op.now) →
         result ≡ earliest (unknown_in_line g (op_of op.now)) }
 {
-    let ty = unknown_types(types, written);
+    let ty = unknown_types(scope.values.types, written);
     let value = unknown_uses(scope, uses);
     let callee = unknown_callee(scope, op);
     let thread = unknown_thread(scope, op);
@@ -73,55 +72,49 @@ fn unsupported_in_line(scope: &LineScope<'_>, uses: &[UseNode<'_>], op: &OpNode)
 }
 
 /// The earliest place in a line at which a thread's function, a return, a path of indices or a name is wrong.
-fn wrong_otherwise(
-    scope: &LineScope<'_>,
-    types: &TypeNumbers<'_>,
-    line: &LineNode,
-) -> Result<Option<Span>, AllocError>
-    ensures place { (g : Scope) → IsLineScope scope.now g → g.tree.types ≡ named_types types.now →
+fn wrong_otherwise(scope: &LineScope<'_>, line: &LineNode) -> Result<Option<Span>, AllocError>
+    ensures place { (g : Scope) → IsLineScope scope.now g →
         IfOk result (λ o. o ≡ earliest (wrong_otherwise g (line_of line.now))) }
 {
-    let thread = wrong_thread(scope, types, &line.op)?;
-    let returned = wrong_return(scope, types, &line.op)?;
-    let path = wrong_path(scope.values.alloc, types, &line.op)?;
-    let name = wrong_name(types, &line.name, &line.op)?;
+    let thread = wrong_thread(scope, &line.op)?;
+    let returned = wrong_return(scope, &line.op)?;
+    let path = wrong_path(scope, &line.op)?;
+    let name = wrong_name(scope, &line.name, &line.op)?;
     Ok(earlier(thread, earlier(returned, earlier(path, name))))
 }
 
 /// The earliest place in a line at which a type is wrong.
 fn wrong_in_line(
     scope: &LineScope<'_>,
-    types: &TypeNumbers<'_>,
     written: &[&TypeNode],
     uses: &[UseNode<'_>],
     line: &LineNode,
 ) -> Result<Option<Span>, AllocError>
-    ensures place { (g : Scope) → IsLineScope scope.now g → g.tree.types ≡ named_types types.now →
+    ensures place { (g : Scope) → IsLineScope scope.now g →
         tys_behind written.now ≡ flat_map types_within (line_types (line_of line.now).op) → uses_of uses.now ≡ value_operands g (line_of line.now).op →
         IfOk result (λ o. o ≡ earliest (wrong_in_line g (line_of line.now))) }
 {
-    let ty = wrong_types(types, written)?;
-    let unmet = unmet_demands(scope, types, &line.op)?;
-    let value = wrong_uses(scope, types, uses)?;
-    let call = wrong_call(scope, types, &line.op)?;
-    let other = wrong_otherwise(scope, types, line)?;
+    let ty = wrong_types(scope.values.types, written)?;
+    let unmet = unmet_demands(scope, &line.op)?;
+    let value = wrong_uses(scope, uses)?;
+    let call = wrong_call(scope, &line.op)?;
+    let other = wrong_otherwise(scope, line)?;
     Ok(earlier(ty, earlier(unmet, earlier(value, earlier(call, other)))))
 }
 
 /// The first refusal of a line.
 pub(crate) fn line_refusal(
     scope: &LineScope<'_>,
-    types: &TypeNumbers<'_>,
     line: &LineNode,
 ) -> Result<Option<CheckRefusal>, AllocError>
-    ensures first { (g : Scope) → IsLineScope scope.now g → g.tree.types ≡ named_types types.now →
+    ensures first { (g : Scope) → IsLineScope scope.now g →
         IfOk result (λ o. IsFirstIn (line_refused g (line_of line.now)) o) }
 {
     let written = types_in_line(scope.values.alloc, &line.op)?;
     let uses = value_operands(scope, &line.op)?;
-    let unknown = unknown_in_line(scope, types, written.as_slice(), uses.as_slice(), &line.op);
-    let doubled = equal_cases(scope.values.alloc, types, &line.op)?;
-    let wrong = wrong_in_line(scope, types, written.as_slice(), uses.as_slice(), line)?;
+    let unknown = unknown_in_line(scope, written.as_slice(), uses.as_slice(), &line.op);
+    let doubled = equal_cases(scope, &line.op)?;
+    let wrong = wrong_in_line(scope, written.as_slice(), uses.as_slice(), line)?;
     let block = missing_labels(scope, &line.op)?;
     let unsupported = unsupported_in_line(scope, uses.as_slice(), &line.op);
     let named = name_or_type_refusal(unknown, doubled, wrong);

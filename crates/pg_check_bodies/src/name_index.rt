@@ -31,7 +31,7 @@ pub(crate) fn index_references<'a>(
     ensures { IfOk result (λ m. (text : List ℕ) → known_place m text ≡ label_number (names_behind names.now) text) }
 {
     let all = texts(alloc, names)?;
-    // As the result itself the call would be one goal over success and failure, which is slow to prove.
+    // In two lines for the proof: see docs/CONTRIBUTING.md.
     let places = index_names(alloc, all.as_slice())?;
     Ok(places)
 }

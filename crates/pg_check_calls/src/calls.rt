@@ -298,12 +298,8 @@ fn wrong_call_of(
 /// The earliest place at which the result type, the written types, the callee or the number of arguments of a call isn't
 /// right.
 #[tactic(auto, unfolding(pg_check_rules::specs::Earliest::earliest))]
-pub fn wrong_call(
-    scope: &LineScope<'_>,
-    types: &TypeNumbers<'_>,
-    op: &OpNode,
-) -> Result<Option<Span>, AllocError>
-    ensures place { (g : Scope) → IsLineScope scope.now g → g.tree.types ≡ named_types types.now → IfOk result (λ o. o ≡ earliest (wrong_call g (op_of op.now))) }
+pub fn wrong_call(scope: &LineScope<'_>, op: &OpNode) -> Result<Option<Span>, AllocError>
+    ensures place { (g : Scope) → IsLineScope scope.now g → IfOk result (λ o. o ≡ earliest (wrong_call g (op_of op.now))) }
 {
     match op {
         OpNode::Call {
@@ -316,7 +312,7 @@ pub fn wrong_call(
             let symbol = symbol_named(scope, callee);
             wrong_call_of(
                 scope.values.alloc,
-                types,
+                scope.values.types,
                 symbol,
                 ty,
                 written,
@@ -365,12 +361,8 @@ fn call_demands_of(
 
 /// The earliest type of an argument of a call that isn't its parameter's.
 #[tactic(auto, unfolding(pg_check_rules::specs::Earliest::earliest))]
-pub fn call_demands(
-    scope: &LineScope<'_>,
-    types: &TypeNumbers<'_>,
-    op: &OpNode,
-) -> Result<Option<Span>, AllocError>
-    ensures place { (g : Scope) → IsLineScope scope.now g → g.tree.types ≡ named_types types.now →
+pub fn call_demands(scope: &LineScope<'_>, op: &OpNode) -> Result<Option<Span>, AllocError>
+    ensures place { (g : Scope) → IsLineScope scope.now g →
         IfOk result (λ o. o ≡ earliest (flat_map (unmet g.tree.types) (call_demands g (op_of op.now)))) }
 {
     match op {
@@ -380,7 +372,12 @@ pub fn call_demands(
             ..
         } => {
             let symbol = symbol_named(scope, callee);
-            call_demands_of(scope.values.alloc, types, symbol, arguments.as_slice())
+            call_demands_of(
+                scope.values.alloc,
+                scope.values.types,
+                symbol,
+                arguments.as_slice(),
+            )
         }
         _ => Ok(None),
     }

@@ -1,4 +1,5 @@
 //! What calls and threads are refused for.
+// How goals are searched for: see docs/CONTRIBUTING.md.
 #![tactic(auto)]
 
 mod calls;

@@ -220,17 +220,13 @@ fn wrong_thread_of(
 }
 
 #[tactic(auto, unfolding(pg_check_rules::specs::Earliest::earliest))]
-fn wrong_value(
-    scope: &LineScope<'_>,
-    types: &TypeNumbers<'_>,
-    value: &ValNode,
-) -> Result<Option<Span>, AllocError>
-    ensures place { (g : Scope) → IsLineScope scope.now g → g.tree.types ≡ named_types types.now → IfOk result (λ o. o ≡ earliest (wrong_thread g (val_of value.now))) }
+fn wrong_value(scope: &LineScope<'_>, value: &ValNode) -> Result<Option<Span>, AllocError>
+    ensures place { (g : Scope) → IsLineScope scope.now g → IfOk result (λ o. o ≡ earliest (wrong_thread g (val_of value.now))) }
 {
     match value {
         ValNode::Global(name) => {
             let symbol = symbol_named(scope, name);
-            wrong_thread_of(scope.values.alloc, types, symbol, name.span)
+            wrong_thread_of(scope.values.alloc, scope.values.types, symbol, name.span)
         }
         _ => Ok(None),
     }
@@ -238,16 +234,12 @@ fn wrong_value(
 
 /// The name of a function with which a thread begins, and that doesn't go from a pointer to a pointer.
 #[tactic(auto, unfolding(pg_check_rules::specs::Earliest::earliest))]
-pub fn wrong_thread(
-    scope: &LineScope<'_>,
-    types: &TypeNumbers<'_>,
-    op: &OpNode,
-) -> Result<Option<Span>, AllocError>
-    ensures place { (g : Scope) → IsLineScope scope.now g → g.tree.types ≡ named_types types.now →
+pub fn wrong_thread(scope: &LineScope<'_>, op: &OpNode) -> Result<Option<Span>, AllocError>
+    ensures place { (g : Scope) → IsLineScope scope.now g →
         IfOk result (λ o. o ≡ earliest (flat_map (wrong_thread g) (thread_functions g (op_of op.now)))) }
 {
     match thread_function(scope, op) {
-        Some(value) => wrong_value(scope, types, value),
+        Some(value) => wrong_value(scope, value),
         None => Ok(None),
     }
 }

@@ -51,22 +51,17 @@ fn integer_word(
 /// The word of a pointer constant.
 #[cycle(words)]
 #[tactic(auto, unfolding(pg_check_rules::specs::Constants::pointer_word))]
-pub(crate) fn pointer_word(
-    globals: &Globals<'_>,
-    types: &TypeNumbers<'_>,
-    value: &ValNode,
-) -> Result<u64, AllocError>
-    requires items { types.now.items ≡ globals.now.symbols.tree.now.types.items }
+pub(crate) fn pointer_word(globals: &Globals<'_>, value: &ValNode) -> Result<u64, AllocError>
     requires fits { ValFits (tree_of globals.now.symbols.tree.now).types (val_of value.now) }
     ensures word { IfOk result (λ w. w ≡ pointer_word (tree_of globals.now.symbols.tree.now) (val_of value.now)) }
 {
     match value {
         ValNode::Global(name) => Ok(symbol_word(globals, name.text.as_slice())),
         ValNode::GetElementPtr(_, ty, _, base, indices) => {
-            let word = pointer_word(globals, types, base)?;
-            moved_word(globals.alloc, types, word, ty, indices.as_slice())
+            let word = pointer_word(globals, base)?;
+            moved_word(globals.alloc, globals.types, word, ty, indices.as_slice())
         }
-        ValNode::IntToPtr(_, ty, literal, _) => integer_word(types, ty, literal),
+        ValNode::IntToPtr(_, ty, literal, _) => integer_word(globals.types, ty, literal),
         _ => Ok(0),
     }
 }
@@ -74,17 +69,15 @@ pub(crate) fn pointer_word(
 /// The number of a constant by the kind of its type.
 pub fn kind_word(
     globals: &Globals<'_>,
-    types: &TypeNumbers<'_>,
     kind: Option<TypeKind>,
     value: &ValNode,
 ) -> Result<u64, AllocError>
-    requires items { types.now.items ≡ globals.now.symbols.tree.now.types.items }
     requires fits { ValFits (tree_of globals.now.symbols.tree.now).types (val_of value.now) }
     ensures word { IfOk result (λ w. w ≡ kind_word (tree_of globals.now.symbols.tree.now) kind (val_of value.now)) }
 {
     match kind {
         Some(TypeKind::Integer(width)) => Ok(constant_number(width, value).unwrap_or(0)),
-        Some(TypeKind::Pointer) => pointer_word(globals, types, value),
+        Some(TypeKind::Pointer) => pointer_word(globals, value),
         _ => Ok(0),
     }
 }

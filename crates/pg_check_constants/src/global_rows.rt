@@ -19,7 +19,7 @@ use crate::fields::size_or_none;
 use crate::globals::Globals;
 use crate::initialisers::add_const;
 use pg_check_rules::granules_for;
-use pg_check_types::{KnownTypes, TypeNumbers};
+use pg_check_types::KnownTypes;
 use pg_ir::{Bytes, GlobalInfo};
 use pg_read_ast::{ConstNode, GlobalItem};
 use std::alloc::AllocError;
@@ -28,11 +28,9 @@ use std::alloc::AllocError;
 fn initial_bytes(
     globals: &Globals<'_>,
     known: &KnownTypes<'_>,
-    types: &TypeNumbers<'_>,
     number: Option<usize>,
     value: &ConstNode,
 ) -> Result<Vec<u8>, AllocError>
-    requires items { types.now.items ≡ globals.now.symbols.tree.now.types.items }
     requires within { IsWithin (table_of known.now) number }
     requires ty { IfSome (denoted (table_of known.now) number) AllFit }
     requires value { ConstFits (tree_of globals.now.symbols.tree.now).types (const_of value.now) }
@@ -41,7 +39,7 @@ fn initial_bytes(
     let mut bytes = Vec::new(globals.alloc);
     match number {
         Some(number) => {
-            add_const(globals, known, types, &mut bytes, number, value)?;
+            add_const(globals, known, &mut bytes, number, value)?;
             Ok(bytes)
         }
         None => Ok(bytes),
@@ -59,20 +57,14 @@ fn without_zeros(all: Vec<u8>) -> Vec<u8>
 }
 
 /// A global that starts at a granule.
-fn info_from(
-    globals: &Globals<'_>,
-    types: &TypeNumbers<'_>,
-    start: u32,
-    item: &GlobalItem,
-) -> Result<GlobalInfo, AllocError>
-    requires items { types.now.items ≡ globals.now.symbols.tree.now.types.items }
+fn info_from(globals: &Globals<'_>, start: u32, item: &GlobalItem) -> Result<GlobalInfo, AllocError>
     requires fits { GlobalFits (tree_of globals.now.symbols.tree.now).types (global_of item.now) }
     ensures info { IfOk result (λ g. g ≡ info_from (tree_of globals.now.symbols.tree.now) start (global_of item.now)) }
 {
-    let mut known = KnownTypes::new(types);
+    let mut known = KnownTypes::new(globals.types);
     let number = known.number(&item.ty)?;
     let size = size_or_none(&known, number);
-    let bytes = initial_bytes(globals, &known, types, number, &item.value)?;
+    let bytes = initial_bytes(globals, &known, number, &item.value)?;
     Ok(GlobalInfo {
         start,
         size,
@@ -90,12 +82,7 @@ fn granule_behind(start: u32, size: u32) -> u32
 }
 
 /// The globals of a program, where these are its variables.
-fn infos(
-    globals: &Globals<'_>,
-    types: &TypeNumbers<'_>,
-    variables: &[GlobalItem],
-) -> Result<Vec<GlobalInfo>, AllocError>
-    requires items { types.now.items ≡ globals.now.symbols.tree.now.types.items }
+fn infos(globals: &Globals<'_>, variables: &[GlobalItem]) -> Result<Vec<GlobalInfo>, AllocError>
     requires variables { variables.now ≡ globals.now.symbols.tree.now.globals.items }
     requires fits { GlobalsFit (tree_of globals.now.symbols.tree.now).types (tree_of globals.now.symbols.tree.now).globals }
     ensures rows { IfOk result (λ v. v.items ≡ map (λ (v : ℕ × Variable). global_at (tree_of globals.now.symbols.tree.now) v.0 v.1)
@@ -104,7 +91,7 @@ fn infos(
     let mut rows = Vec::new(globals.alloc);
     let mut start = 1;
     for item in variables {
-        let row = info_from(globals, types, start, item)?;
+        let row = info_from(globals, start, item)?;
         start = granule_behind(start, row.size);
         rows.push(row)?;
     }
@@ -112,14 +99,10 @@ fn infos(
 }
 
 /// The globals of a program in text order, whose types and constants keep within the limits of sizes.
-pub fn add_globals(
-    globals: &Globals<'_>,
-    types: &TypeNumbers<'_>,
-) -> Result<Vec<GlobalInfo>, AllocError>
-    requires items { types.now.items ≡ globals.now.symbols.tree.now.types.items }
+pub fn add_globals(globals: &Globals<'_>) -> Result<Vec<GlobalInfo>, AllocError>
     requires fits { GlobalsFit (tree_of globals.now.symbols.tree.now).types (tree_of globals.now.symbols.tree.now).globals }
     ensures rows { IfOk result (λ v. v.items ≡ map (λ (v : ℕ × Variable). global_at (tree_of globals.now.symbols.tree.now) v.0 v.1)
         (enumerate_from 0 (tree_of globals.now.symbols.tree.now).globals)) }
 {
-    infos(globals, types, globals.symbols.tree.globals.as_slice())
+    infos(globals, globals.symbols.tree.globals.as_slice())
 }

@@ -1,8 +1,10 @@
 //! What global names stand for, and the words of the pointers to variables.
 
 ghost use Rattle.std.specs.Prelude.{◌≡◌, ◌≤◌, ◌^◌, ◌<◌, ◌+◌, IfOk, map, slice_get, unwrap_or};
+ghost use Rattle.std.specs.Coded.{Coded-set, codes};
 ghost use Rattle.pg_num.specs.Pointers.{word_of};
 ghost use Rattle.pg_num.specs.declared.limits.TheConstants.{SIZE_LIMIT};
+ghost use Rattle.pg_read_ast.specs.contracts.types.TypeNode as type_node;
 ghost use Rattle.pg_read_ast.specs.Views.{global_of, tree_of};
 ghost use Rattle.pg_check_types.specs.NumberedTypes.{named_types};
 ghost use Rattle.pg_check_rules.specs.Names.{symbol};
@@ -17,13 +19,15 @@ use pg_num::{Pointer, pack};
 use pg_read_ast::{GlobalItem, Module};
 use std::alloc::{AllocError, Global};
 
-/// The globals of a module: what its global names stand for, and the words of the pointers to its variables; and what
-/// allocates what is made of them.
+/// The globals of a module: what its global names stand for, its types, and the words of the pointers to its variables;
+/// and what allocates what is made of them.
 #[derive(Drop)]
 pub struct Globals<'a> {
     pub alloc: Global,
     pub symbols: Symbols<'a>,
+    pub types: &'a TypeNumbers<'a>,
     words: Vec<u64>,
+    ghost items: { types.now.items ≡ symbols.tree.now.types.items } by { Prim.hlevel (Coded-set, codes, type_node.the_row.coded) },
     ghost known: { words.items ≡ words_from (tree_of symbols.tree.now).types 1 (tree_of symbols.tree.now).globals },
 }
 
@@ -65,7 +69,7 @@ fn global_words(
 /// The globals of a module, whose types and constants keep within the limits of sizes.
 pub fn index_globals<'a>(
     alloc: Global,
-    types: &TypeNumbers<'_>,
+    types: &'a TypeNumbers<'a>,
     tree: &'a Module,
 ) -> Result<Globals<'a>, AllocError>
     requires items { types.now.items ≡ tree.now.types.items }
@@ -77,6 +81,7 @@ pub fn index_globals<'a>(
     Ok(Globals {
         alloc,
         symbols,
+        types,
         words,
     })
 }

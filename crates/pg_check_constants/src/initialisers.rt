@@ -18,20 +18,18 @@ use crate::constants::pointer_word;
 use crate::fields::{field_range, size_of};
 use crate::globals::Globals;
 use pg_check_rules::{constant_number, element_in, fields_of, nth_field};
-use pg_check_types::{KnownTypes, TypeKind, TypeNumbers, bytes_of};
+use pg_check_types::{KnownTypes, TypeKind, bytes_of};
 use pg_read_ast::{ConstNode, TypedConst, ValNode};
 use std::alloc::AllocError;
 
 /// Adds the bytes of a value of a kind of type, which has a size.
 fn add_of_kind(
     globals: &Globals<'_>,
-    types: &TypeNumbers<'_>,
     bytes: &mut Vec<u8>,
     kind: TypeKind,
     size: u32,
     value: &ValNode,
 ) -> Result<(), AllocError>
-    requires items { types.now.items ≡ globals.now.symbols.tree.now.types.items }
     requires fits { ValFits (tree_of globals.now.symbols.tree.now).types (val_of value.now) }
     ensures bytes { OnOk result (bytes.new.items ≡ bytes.old.items
         ++ kind_bytes (tree_of globals.now.symbols.tree.now) kind size (val_of value.now)) }
@@ -42,7 +40,7 @@ fn add_of_kind(
             add_little_endian(bytes, bytes_of(width), number)
         }
         TypeKind::Pointer => {
-            let word = pointer_word(globals, types, value)?;
+            let word = pointer_word(globals, value)?;
             add_little_endian(bytes, 8, word)
         }
         _ => add_zeros(bytes, size),
@@ -54,12 +52,10 @@ fn add_of_kind(
 fn add_value(
     globals: &Globals<'_>,
     known: &KnownTypes<'_>,
-    types: &TypeNumbers<'_>,
     bytes: &mut Vec<u8>,
     number: usize,
     value: &ValNode,
 ) -> Result<(), AllocError>
-    requires items { types.now.items ≡ globals.now.symbols.tree.now.types.items }
     requires within { number < length (table_of known.now) }
     requires size { size_of (type_at (table_of known.now) number) ≤ SIZE_LIMIT }
     requires fits { ValFits (tree_of globals.now.symbols.tree.now).types (val_of value.now) }
@@ -68,7 +64,7 @@ fn add_value(
 {
     let kind = known.kind_of_number(number);
     let size = size_of(known, number);
-    add_of_kind(globals, types, bytes, kind, size, value)
+    add_of_kind(globals, bytes, kind, size, value)
 }
 
 /// Adds bytes as they are written.
@@ -132,12 +128,10 @@ fn field_at(known: &KnownTypes<'_>, number: usize, fields: &[usize], place: usiz
 pub(crate) fn add_const(
     globals: &Globals<'_>,
     known: &KnownTypes<'_>,
-    types: &TypeNumbers<'_>,
     bytes: &mut Vec<u8>,
     number: usize,
     value: &ConstNode,
 ) -> Result<(), AllocError>
-    requires items { types.now.items ≡ globals.now.symbols.tree.now.types.items }
     requires within { number < length (table_of known.now) }
     requires ty { AllFit (type_at (table_of known.now) number) }
     requires fits { ConstFits (tree_of globals.now.symbols.tree.now).types (const_of value.now) }
@@ -145,18 +139,16 @@ pub(crate) fn add_const(
         ++ const_bytes (tree_of globals.now.symbols.tree.now) (type_at (table_of known.now) number) (const_of value.now)) }
 {
     match value {
-        ConstNode::Val(value) => add_value(globals, known, types, bytes, number, value),
+        ConstNode::Val(value) => add_value(globals, known, bytes, number, value),
         ConstNode::Bytes(literal) => add_written(bytes, literal.text.as_slice()),
         ConstNode::Array(_, parts) => match element_in(known, number) {
-            Some(element) => {
-                add_elements(globals, known, types, bytes, element, parts.as_slice())
-            }
+            Some(element) => { add_elements(globals, known, bytes, element, parts.as_slice()) }
             None => Ok(()),
         },
         ConstNode::Struct(_, parts) => {
             let size = size_of(known, number);
             let start = bytes.len();
-            add_fields(globals, known, types, bytes, number, parts.as_slice())?;
+            add_fields(globals, known, bytes, number, parts.as_slice())?;
             fill(bytes, start, size)
         }
     }
@@ -167,19 +159,17 @@ pub(crate) fn add_const(
 fn add_part(
     globals: &Globals<'_>,
     known: &KnownTypes<'_>,
-    types: &TypeNumbers<'_>,
     bytes: &mut Vec<u8>,
     number: usize,
     part: &TypedConst,
 ) -> Result<(), AllocError>
-    requires items { types.now.items ≡ globals.now.symbols.tree.now.types.items }
     requires within { number < length (table_of known.now) }
     requires ty { AllFit (type_at (table_of known.now) number) }
     requires fits { ConstFits (tree_of globals.now.symbols.tree.now).types (typed_const_of part.now).value }
     ensures bytes { OnOk result (bytes.new.items ≡ bytes.old.items
         ++ const_bytes (tree_of globals.now.symbols.tree.now) (type_at (table_of known.now) number) (typed_const_of part.now).value) }
 {
-    add_const(globals, known, types, bytes, number, &part.value)
+    add_const(globals, known, bytes, number, &part.value)
 }
 
 /// Adds the bytes of elements of a type.
@@ -187,12 +177,10 @@ fn add_part(
 fn add_elements(
     globals: &Globals<'_>,
     known: &KnownTypes<'_>,
-    types: &TypeNumbers<'_>,
     bytes: &mut Vec<u8>,
     element: usize,
     parts: &[TypedConst],
 ) -> Result<(), AllocError>
-    requires items { types.now.items ≡ globals.now.symbols.tree.now.types.items }
     requires within { element < length (table_of known.now) }
     requires ty { AllFit (type_at (table_of known.now) element) }
     requires fits { PartsFit (tree_of globals.now.symbols.tree.now).types (consts (map typed_const_of parts.now)) }
@@ -200,7 +188,7 @@ fn add_elements(
         ++ element_bytes (tree_of globals.now.symbols.tree.now) (type_at (table_of known.now) element) (consts (map typed_const_of parts.now))) }
 {
     for part in parts {
-        add_part(globals, known, types, bytes, element, part)?;
+        add_part(globals, known, bytes, element, part)?;
     }
     Ok(())
 }
@@ -210,12 +198,10 @@ fn add_elements(
 fn add_fields(
     globals: &Globals<'_>,
     known: &KnownTypes<'_>,
-    types: &TypeNumbers<'_>,
     bytes: &mut Vec<u8>,
     number: usize,
     parts: &[TypedConst],
 ) -> Result<(), AllocError>
-    requires items { types.now.items ≡ globals.now.symbols.tree.now.types.items }
     requires within { number < length (table_of known.now) }
     requires ty { AllFit (type_at (table_of known.now) number) }
     requires fits { PartsFit (tree_of globals.now.symbols.tree.now).types (consts (map typed_const_of parts.now)) }
@@ -228,7 +214,7 @@ fn add_fields(
         match field_at(known, number, fields.as_slice(), place) {
             Some(field) => {
                 at = add_padding(known, bytes, at, field)?;
-                add_part(globals, known, types, bytes, field, part)?;
+                add_part(globals, known, bytes, field, part)?;
             }
             None => return Ok(()),
         }

@@ -1,4 +1,5 @@
 //! The numbers of constants: words of pointers, bytes of initialisers, and globals.
+// How goals are searched for: see docs/CONTRIBUTING.md.
 #![tactic(auto)]
 
 mod bytes;

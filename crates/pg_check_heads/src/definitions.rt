@@ -25,11 +25,10 @@ ghost use Rattle.pg_check_rules.specs.Earliest.{earliest, IsFirstIn};
 ghost use Rattle.pg_check_rules.specs.Written.{is_returnable};
 ghost use Rattle.pg_check_rules.specs.Conditions.{head_types, are_params, has_header, has_other_header, wrong_main, wrong_definition, definition_refused};
 
-use crate::heads::is_main;
 use indexmap::IndexMap;
 use pg_check_rules::{
     CheckKind, CheckRefusal, all_within, any_large, are_types, doubled, doubled_among, earlier,
-    earlier_refusal, is_result, known_named, name_or_type_refusal, param_names, place_if,
+    earlier_refusal, is_main, is_result, known_named, name_or_type_refusal, param_names, place_if,
     refusal_at, unknown_types, wrong_types,
 };
 use pg_check_types::{TypeKind, TypeNumbers};

@@ -9,7 +9,6 @@ ghost use Rattle.pg_read_ast.specs.Views.{ty_of, const_of, global_of, tree_of};
 ghost use Rattle.pg_check_rules.specs.Written.{const_uses, types_within};
 ghost use Rattle.pg_check_rules.specs.declared.fault.CheckKind.TheVariants.{WrongType};
 ghost use Rattle.pg_check_types.specs.NameIndex.{known_place};
-ghost use Rattle.pg_check_types.specs.NumberedTypes.{named_types};
 ghost use Rattle.pg_check_rules.specs.Nodes.{tys_behind};
 ghost use Rattle.pg_check_rules.specs.Names.{symbol_names};
 ghost use Rattle.pg_check_rules.specs.Starts.{first_start};
@@ -74,8 +73,6 @@ fn types_of<'a>(
 
 /// The earliest place at which a global's types or its initialiser don't fit.
 fn wrong_places(
-    alloc: Global,
-    types: &TypeNumbers<'_>,
     scope: &ValueScope<'_>,
     item: &GlobalItem,
     within: &[&TypeNode],
@@ -83,45 +80,36 @@ fn wrong_places(
 ) -> Result<Option<Span>, AllocError>
     requires within { tys_behind within.now ≡ flat_map types_within (global_types (global_of item.now)) }
     requires uses { uses_behind uses.now ≡ const_uses (ty_of item.now.ty) (const_of item.now.value) }
-    ensures place { (m : Tree) (n : ℕ) → IsScope scope.now (outside m) → m.types ≡ named_types types.now →
+    ensures place { (m : Tree) (n : ℕ) → IsScope scope.now (outside m) →
         IfOk result (λ o. o ≡ earliest (global_refused m (n, global_of item.now) WrongType)) }
 {
-    let written = wrong_types(types, within)?;
-    let own = unmet(types, TypeTest::NotVoid, &item.ty)?;
-    let constant = wrong_const(alloc, types, &item.value, &item.ty)?;
-    let values = wrong_uses(scope, types, uses)?;
+    let written = wrong_types(scope.types, within)?;
+    let own = unmet(scope.types, TypeTest::NotVoid, &item.ty)?;
+    let constant = wrong_const(scope.alloc, scope.types, &item.value, &item.ty)?;
+    let values = wrong_uses(scope, uses)?;
     Ok(earlier(written, earlier(own, earlier(constant, values))))
 }
 
 /// The first refusal of a global, where it is known whether it ends where none may.
 fn global_refusal(
-    alloc: Global,
-    types: &TypeNumbers<'_>,
     scope: &ValueScope<'_>,
     starts: &IndexMap<&[u8], u32>,
     number: usize,
     item: &GlobalItem,
     past_end: bool,
 ) -> Result<Option<CheckRefusal>, AllocError>
-    ensures first { (m : Tree) → IsScope scope.now (outside m) → m.types ≡ named_types types.now →
+    ensures first { (m : Tree) → IsScope scope.now (outside m) →
         past_end ≡ nat_lt GLOBALS_END (globals_end m.types (take (number + 1) m.globals)) →
         ((text : List ℕ) → known_place starts.now text ≡ first_start (symbol_names m) text) →
         IfOk result (λ o. IsFirstIn (global_refused m (number, global_of item.now)) o) }
 {
-    let uses = uses_of(alloc, item)?;
-    let written = types_of(alloc, item, uses.as_slice())?;
-    let within = all_within(alloc, written.as_slice())?;
-    let wrong = wrong_places(
-        alloc,
-        types,
-        scope,
-        item,
-        within.as_slice(),
-        uses.as_slice(),
-    )?;
-    let large = any_large(types, within.as_slice())?;
+    let uses = uses_of(scope.alloc, item)?;
+    let written = types_of(scope.alloc, item, uses.as_slice())?;
+    let within = all_within(scope.alloc, written.as_slice())?;
+    let wrong = wrong_places(scope, item, within.as_slice(), uses.as_slice())?;
+    let large = any_large(scope.types, within.as_slice())?;
     let unknown_use = unknown_uses(scope, uses.as_slice());
-    let unknown = earlier(unknown_types(types, within.as_slice()), unknown_use);
+    let unknown = earlier(unknown_types(scope.types, within.as_slice()), unknown_use);
     let unsupported = function_uses(scope, uses.as_slice());
     let over = one_of_three(large, is_past_limit(number), past_end);
     let named = name_or_type_refusal(unknown, doubled(starts, &item.name), wrong);
@@ -134,13 +122,11 @@ fn global_refusal(
 
 /// The first refusal of globals, over what their initialisers are looked up in.
 fn refusal_over(
-    alloc: Global,
-    types: &TypeNumbers<'_>,
     scope: &ValueScope<'_>,
     starts: &IndexMap<&[u8], u32>,
     items: &[GlobalItem],
 ) -> Result<Option<CheckRefusal>, AllocError>
-    ensures first { (m : Tree) → IsScope scope.now (outside m) → m.types ≡ named_types types.now → m.globals ≡ map global_of items.now →
+    ensures first { (m : Tree) → IsScope scope.now (outside m) → m.globals ≡ map global_of items.now →
         ((text : List ℕ) → known_place starts.now text ≡ first_start (symbol_names m) text) →
         IfOk result (λ o. IsFirstIn (all_of (global_refused m) (enumerate_from 0 (map global_of items.now))) o) }
 {
@@ -148,8 +134,8 @@ fn refusal_over(
     let mut end = 1;
     for number in 0..items.len() {
         let item = &items[number];
-        end = end_after(types, end, &item.ty)?;
-        let own = global_refusal(alloc, types, scope, starts, number, item, is_past_end(end))?;
+        end = end_after(scope.types, end, &item.ty)?;
+        let own = global_refusal(scope, starts, number, item, is_past_end(end))?;
         found = earlier_refusal(found, own);
     }
     Ok(found)
@@ -170,14 +156,9 @@ pub fn globals_refusal(
     let scope = ValueScope {
         alloc,
         symbols,
-        registers: &registers,
-        types: &[],
-    };
-    refusal_over(
-        alloc,
         types,
-        &scope,
-        starts,
-        symbols.tree.globals.as_slice(),
-    )
+        registers: &registers,
+        register_types: &[],
+    };
+    refusal_over(&scope, starts, symbols.tree.globals.as_slice())
 }

@@ -2,7 +2,6 @@
 
 ghost use Rattle.std.specs.Prelude.{◌≡◌, ◌++◌, [], IfOk, OnOk, ◌||◌, List, ℕ, Option, None, Some, map};
 ghost use Rattle.std.specs.List.{filter_map, flat_map, cons_option};
-ghost use Rattle.std.specs.Str.{bytes_eq};
 ghost use Rattle.pg_num.specs.declared.width.Width.TheVariants.{W32};
 ghost use Rattle.pg_ir.specs.declared.value.Scalar.TheVariants.{Int};
 ghost use Rattle.pg_read_ast.specs.Syntax.{Ty, Tree};
@@ -15,12 +14,12 @@ ghost use Rattle.pg_check_rules.specs.Names.{symbol_names};
 ghost use Rattle.pg_check_rules.specs.KnownNames.{known_named};
 ghost use Rattle.pg_check_rules.specs.Starts.{first_start};
 ghost use Rattle.pg_check_rules.specs.Earliest.{IsFirstIn};
-ghost use Rattle.pg_check_rules.specs.Conditions.{head_types, main_name, has_header, types_exist, declares_other, declares_other_main, declares_other_known, declaration_refused};
+ghost use Rattle.pg_check_rules.specs.Conditions.{head_types, has_header, types_exist, declares_other, declares_other_main, declares_other_known, declaration_refused};
 ghost use Rattle.pg_check_rules.specs.Written.{types_within};
 
 use indexmap::IndexMap;
 use pg_check_rules::{
-    CheckKind, CheckRefusal, all_within, are_params, doubled, earlier_refusal, is_result,
+    CheckKind, CheckRefusal, all_within, are_params, doubled, earlier_refusal, is_main, is_result,
     known_named, name_or_type_refusal, place_if, refusal_at, unknown_types, wrong_counts,
 };
 use pg_check_types::TypeNumbers;
@@ -108,13 +107,6 @@ fn declares_other(
     } else {
         Ok(false)
     }
-}
-
-/// Whether a name is that of the function with which a program begins.
-pub(crate) fn is_main(text: &[u8]) -> bool
-    ensures { result ≡ bytes_eq text.now main_name }
-{
-    text == b"main".as_slice()
 }
 
 /// Whether a declared function is called `main` and has other types than that.

@@ -2,7 +2,6 @@
 
 ghost use Rattle.std.specs.Prelude.{◌≡◌, ◌++◌, OnOk, IfOk};
 ghost use Rattle.std.specs.List.{flat_map};
-ghost use Rattle.pg_check_types.specs.NumberedTypes.{named_types};
 ghost use Rattle.pg_check_rules.specs.Nodes.{tys_behind};
 ghost use Rattle.pg_check_rules.specs.Written.{Use};
 ghost use Rattle.pg_check_rules.specs.ValueConditions.{Scope, unknown_value, function_value, wrong_use};
@@ -12,7 +11,6 @@ ghost use Rattle.pg_check_heads.specs.Initialisers.{uses_behind, within_row, own
 
 use crate::initialisers::UseNode;
 use pg_check_rules::earlier;
-use pg_check_types::TypeNumbers;
 use pg_check_values::{
     PlacedValue, ValueScope, add_own_types, function_values, unknown_values, wrong_values,
 };
@@ -60,10 +58,9 @@ pub(crate) fn function_uses(scope: &ValueScope<'_>, uses: &[UseNode<'_>]) -> Opt
 /// The earliest place at which a value of an initialiser doesn't fit.
 pub(crate) fn wrong_uses(
     scope: &ValueScope<'_>,
-    types: &TypeNumbers<'_>,
     uses: &[UseNode<'_>],
 ) -> Result<Option<Span>, AllocError>
-    ensures place { (g : Scope) → IsScope scope.now g → g.tree.types ≡ named_types types.now →
+    ensures place { (g : Scope) → IsScope scope.now g →
         IfOk result (λ o. o ≡ earliest (flat_map (within_row (wrong_use g)) (uses_behind uses.now))) }
 {
     let mut found = None;
@@ -73,7 +70,7 @@ pub(crate) fn wrong_uses(
             ty: one.ty,
             value: one.value,
         };
-        let own = wrong_values(scope, types, placed)?;
+        let own = wrong_values(scope, placed)?;
         found = earlier(found, own);
     }
     Ok(found)

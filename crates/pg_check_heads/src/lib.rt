@@ -1,4 +1,5 @@
 //! What the type items, the globals and the heads of functions of a program text are refused for.
+// How goals are searched for: see docs/CONTRIBUTING.md.
 #![tactic(auto)]
 
 mod circles;

@@ -9,6 +9,7 @@ ghost use Rattle.pg_check_rules.specs.Starts.{noted_start};
 ghost use Rattle.pg_check_rules.specs.ValueConditions.{Scope};
 ghost use Rattle.pg_check_rules.specs.LineConditions.{same_number, repeated_case, equal_cases};
 ghost use Rattle.pg_check_rules.specs.Earliest.{earliest};
+ghost use Rattle.pg_check_values.specs.Scopes.{IsLineScope};
 ghost use Rattle.pg_check_lines.specs.declared.cases.CasePlace.{CasePlace};
 ghost use Rattle.pg_check_lines.specs.Cases.{case_place, repeated, starts_behind, start_of, start_by};
 
@@ -16,6 +17,7 @@ use crate::line_types::value_type;
 use indexmap::IndexMap;
 use pg_check_rules::{earlier, earlier_start, is_before, number_at, place_if, val_span};
 use pg_check_types::TypeNumbers;
+use pg_check_values::LineScope;
 use pg_read_ast::{CaseNode, OpNode, TypeNode};
 use pg_read_lex::Span;
 use std::alloc::{AllocError, Global};
@@ -137,16 +139,17 @@ fn repeated_cases(
 
 /// The earliest case of a `switch` that is equal to one before it.
 #[tactic(auto, unfolding(pg_check_rules::specs::Earliest::earliest))]
-pub fn equal_cases(
-    alloc: Global,
-    types: &TypeNumbers<'_>,
-    op: &OpNode,
-) -> Result<Option<Span>, AllocError>
-    ensures place { (g : Scope) → g.tree.types ≡ named_types types.now → IfOk result (λ o. o ≡ earliest (equal_cases g (op_of op.now))) }
+pub fn equal_cases(scope: &LineScope<'_>, op: &OpNode) -> Result<Option<Span>, AllocError>
+    ensures place { (g : Scope) → IsLineScope scope.now g → IfOk result (λ o. o ≡ earliest (equal_cases g (op_of op.now))) }
 {
     match op {
         OpNode::Switch { value, cases, .. } => {
-            repeated_cases(alloc, types, value_type(value), cases.as_slice())
+            repeated_cases(
+                scope.values.alloc,
+                scope.values.types,
+                value_type(value),
+                cases.as_slice(),
+            )
         }
         _ => Ok(None),
     }

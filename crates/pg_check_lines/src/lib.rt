@@ -1,4 +1,5 @@
 //! What the lines of functions are refused for by themselves.
+// How goals are searched for: see docs/CONTRIBUTING.md.
 #![tactic(auto)]
 
 mod cases;

@@ -2,7 +2,6 @@
 
 ghost use Rattle.std.specs.Prelude.{◌≡◌, IfOk};
 ghost use Rattle.std.specs.List.{flat_map};
-ghost use Rattle.pg_check_types.specs.NumberedTypes.{named_types};
 ghost use Rattle.pg_check_rules.specs.Written.{with_inner};
 ghost use Rattle.pg_check_rules.specs.ValueConditions.{Scope, wrong_use};
 ghost use Rattle.pg_check_rules.specs.Earliest.{earliest};
@@ -11,7 +10,6 @@ ghost use Rattle.pg_check_lines.specs.Uses.{use_of, uses_of, unknown_row, functi
 
 use crate::operands::UseNode;
 use pg_check_rules::earlier;
-use pg_check_types::TypeNumbers;
 use pg_check_values::{
     LineScope, PlacedValue, function_values, unknown_values, wrong_literal, wrong_values,
 };
@@ -63,12 +61,8 @@ pub fn function_uses(scope: &LineScope<'_>, uses: &[UseNode<'_>]) -> Option<Span
 }
 
 /// The earliest place at which a value or one within it doesn't fit.
-fn wrong_use(
-    scope: &LineScope<'_>,
-    types: &TypeNumbers<'_>,
-    one: UseNode<'_>,
-) -> Result<Option<Span>, AllocError>
-    ensures place { (g : Scope) → IsLineScope scope.now g → g.tree.types ≡ named_types types.now →
+fn wrong_use(scope: &LineScope<'_>, one: UseNode<'_>) -> Result<Option<Span>, AllocError>
+    ensures place { (g : Scope) → IsLineScope scope.now g →
         IfOk result (λ o. o ≡ earliest (row_within (wrong_use g) (use_of one.entry))) }
 {
     match one {
@@ -78,24 +72,20 @@ fn wrong_use(
                 ty,
                 value,
             };
-            wrong_values(&scope.values, types, placed)
+            wrong_values(&scope.values, placed)
         }
-        UseNode::Count(count) => wrong_literal(types, &count.ty, &count.count),
+        UseNode::Count(count) => wrong_literal(scope.values.types, &count.ty, &count.count),
     }
 }
 
 /// The earliest place at which one of these values or one within them doesn't fit.
-pub fn wrong_uses(
-    scope: &LineScope<'_>,
-    types: &TypeNumbers<'_>,
-    uses: &[UseNode<'_>],
-) -> Result<Option<Span>, AllocError>
-    ensures place { (g : Scope) → IsLineScope scope.now g → g.tree.types ≡ named_types types.now →
+pub fn wrong_uses(scope: &LineScope<'_>, uses: &[UseNode<'_>]) -> Result<Option<Span>, AllocError>
+    ensures place { (g : Scope) → IsLineScope scope.now g →
         IfOk result (λ o. o ≡ earliest (flat_map (wrong_use g) (flat_map with_inner (uses_of uses.now)))) }
 {
     let mut found = None;
     for one in uses {
-        found = earlier(found, wrong_use(scope, types, *one)?);
+        found = earlier(found, wrong_use(scope, *one)?);
     }
     Ok(found)
 }

@@ -3,7 +3,6 @@
 ghost use Rattle.std.specs.Prelude.{◌≡◌, IfOk, Some};
 ghost use Rattle.pg_read_ast.specs.Numbers.{gives};
 ghost use Rattle.pg_read_ast.specs.Views.{op_of};
-ghost use Rattle.pg_check_types.specs.NumberedTypes.{named_types};
 ghost use Rattle.pg_check_types.specs.Kinds.{fails};
 ghost use Rattle.pg_check_types.specs.Resolved.{is_void_type};
 ghost use Rattle.pg_check_rules.specs.Conditions.{at_if};
@@ -14,25 +13,26 @@ ghost use Rattle.pg_check_values.specs.Scopes.{IsLineScope};
 ghost use Rattle.pg_check_lines.specs.Results.{is_value_kind};
 
 use pg_check_rules::place_if;
-use pg_check_types::{TypeKind, TypeNumbers};
+use pg_check_types::TypeKind;
 use pg_check_values::pg_check_names::gives;
 use pg_check_values::{LineScope, wrong_indices};
 use pg_read_ast::{Name, OpNode};
 use pg_read_lex::Span;
-use std::alloc::{AllocError, Global};
+use std::alloc::AllocError;
 
 /// The earliest index of a `getelementptr` that chooses no field, or goes into what has no parts.
 #[tactic(auto, unfolding(pg_check_rules::specs::Earliest::earliest))]
-pub fn wrong_path(
-    alloc: Global,
-    types: &TypeNumbers<'_>,
-    op: &OpNode,
-) -> Result<Option<Span>, AllocError>
-    ensures place { (g : Scope) → g.tree.types ≡ named_types types.now → IfOk result (λ o. o ≡ earliest (wrong_path g (op_of op.now))) }
+pub fn wrong_path(scope: &LineScope<'_>, op: &OpNode) -> Result<Option<Span>, AllocError>
+    ensures place { (g : Scope) → IsLineScope scope.now g → IfOk result (λ o. o ≡ earliest (wrong_path g (op_of op.now))) }
 {
     match op {
         OpNode::GetElementPtr { ty, indices, .. } => {
-            wrong_indices(alloc, types, ty, indices.as_slice())
+            wrong_indices(
+                scope.values.alloc,
+                scope.values.types,
+                ty,
+                indices.as_slice(),
+            )
         }
         _ => Ok(None),
     }
@@ -51,30 +51,22 @@ fn is_value_kind(kind: Option<TypeKind>) -> bool
 
 /// The place of a `void` that is returned where the function has a result.
 #[tactic(auto, using(crate::proofs::ResultKinds::fails_void))]
-fn void_return(
-    scope: &LineScope<'_>,
-    types: &TypeNumbers<'_>,
-    void: Span,
-) -> Result<Option<Span>, AllocError>
-    ensures place { (g : Scope) → IsLineScope scope.now g → g.tree.types ≡ named_types types.now →
+fn void_return(scope: &LineScope<'_>, void: Span) -> Result<Option<Span>, AllocError>
+    ensures place { (g : Scope) → IsLineScope scope.now g →
         IfOk result (λ o. o ≡ earliest (at_if (fails is_void_type g.result) void)) }
 {
-    let kind = types.kind(scope.result)?;
+    let kind = scope.values.types.kind(scope.result)?;
     Ok(place_if(is_value_kind(kind), void))
 }
 
 /// The place at which nothing is returned where the function has a result.
 #[tactic(auto, unfolding(pg_check_rules::specs::Earliest::earliest))]
-pub fn wrong_return(
-    scope: &LineScope<'_>,
-    types: &TypeNumbers<'_>,
-    op: &OpNode,
-) -> Result<Option<Span>, AllocError>
-    ensures place { (g : Scope) → IsLineScope scope.now g → g.tree.types ≡ named_types types.now →
+pub fn wrong_return(scope: &LineScope<'_>, op: &OpNode) -> Result<Option<Span>, AllocError>
+    ensures place { (g : Scope) → IsLineScope scope.now g →
         IfOk result (λ o. o ≡ earliest (wrong_return g (op_of op.now))) }
 {
     match op {
-        OpNode::RetVoid { void, .. } => void_return(scope, types, *void),
+        OpNode::RetVoid { void, .. } => void_return(scope, *void),
         _ => Ok(None),
     }
 }
@@ -89,15 +81,15 @@ fn misplaced_name(gives: bool, name: &Name) -> Option<Span>
 /// A name before an instruction without a result.
 #[tactic(auto, unfolding(pg_check_rules::specs::Earliest::earliest))]
 pub fn wrong_name(
-    types: &TypeNumbers<'_>,
+    scope: &LineScope<'_>,
     name: &Option<Name>,
     op: &OpNode,
 ) -> Result<Option<Span>, AllocError>
-    ensures place { (g : Scope) → g.tree.types ≡ named_types types.now →
+    ensures place { (g : Scope) → IsLineScope scope.now g →
         IfOk result (λ o. o ≡ earliest (wrong_name (gives g.tree.types (op_of op.now)) name.now)) }
 {
     match name {
-        Some(name) => Ok(misplaced_name(gives(types, op)?, name)),
+        Some(name) => Ok(misplaced_name(gives(scope.values.types, op)?, name)),
         None => Ok(None),
     }
 }

@@ -1,4 +1,5 @@
 //! The names of a function's own: its labels and its registers.
+// How goals are searched for: see docs/CONTRIBUTING.md.
 #![tactic(auto)]
 
 mod naming;

@@ -5,6 +5,7 @@ mod IndexLists
 mod KindWords
 mod LineSteps
 mod MainPlace
+mod ModuleTypes
 mod NamePlaces
 mod NumberedLines
 mod OwnScopes

@@ -25,22 +25,22 @@ main_place items =
     sym (position_map (λ (d : Definition). bytes_eq d.name.text main_name) define_of items 0)
     ∙ sym (position_from-zero (λ (d : Definition). bytes_eq d.name.text main_name) (map define_of items))
 
-pub program_made : (tree seen : Module) (all : List DefineItem) (functions : List Function) (blocks : List Block) (instrs : List Instr) (globals : List GlobalInfo) (main : ℕ)
-    → seen ≡ tree → all ≡ tree.functions.items
+pub program_made : (tree : Module) (all : List DefineItem) (functions : List Function) (blocks : List Block) (instrs : List Instr) (globals : List GlobalInfo) (main : ℕ)
+    → all ≡ tree.functions.items
     → functions ≡ rows_from (function_row (tree_of tree) (map define_of all)) 0 all
     → blocks ≡ rows_from (block_row (map define_of all)) 0 all
-    → instrs ≡ rows_from (instr_row (tree_of seen) (map define_of all)) 0 all
-    → globals ≡ map (λ (v : ℕ × Variable). global_at (tree_of seen) v.0 v.1) (enumerate_from 0 (tree_of seen).globals)
+    → instrs ≡ rows_from (instr_row (tree_of tree) (map define_of all)) 0 all
+    → globals ≡ map (λ (v : ℕ × Variable). global_at (tree_of tree) v.0 v.1) (enumerate_from 0 (tree_of tree).globals)
     → main ≡ unwrap_or (position_from is_main_item 0 all) 0
     → numbered_program functions blocks instrs globals main ≡ program_of (tree_of tree)
 unfolding program_of
-program_made tree seen all functions blocks instrs globals main s a f b i g n =
+program_made tree all functions blocks instrs globals main a f b i g n =
     let m = tree_of tree in
     let items = tree.functions.items in
     same_five numbered_program
     (f ∙ ap (λ xs. rows_from (function_row m (map define_of xs)) 0 xs) a ∙ singles_are (λ k d. function_at m (first_block m.functions k) d) m.types 0 items)
     (b ∙ ap (λ xs. rows_from (block_row (map define_of xs)) 0 xs) a ∙ block_rows_are m.functions m.types 0 items)
-    (i ∙ ap (λ t. rows_from (instr_row (tree_of t) (map define_of all)) 0 all) s ∙ ap (λ xs. rows_from (instr_row m (map define_of xs)) 0 xs) a
+    (i ∙ ap (λ xs. rows_from (instr_row m (map define_of xs)) 0 xs) a
     ∙ rows_are (λ k d. function_instrs m (first_block m.functions k) d) m.types 0 items)
-    (g ∙ ap (λ t. map (λ (v : ℕ × Variable). global_at (tree_of t) v.0 v.1) (enumerate_from 0 (tree_of t).globals)) s)
+    g
     (n ∙ ap (λ xs. unwrap_or (position_from is_main_item 0 xs) 0) a ∙ ap (λ o. unwrap_or o 0) (main_place items))

@@ -80,11 +80,12 @@ fn case_number(types: &TypeNumbers<'_>, ty: &TypeNode, value: &TypedVal) -> Resu
 }
 
 /// A case of a `switch`, and the number of its basic block.
+#[tactic(auto, using(crate::proofs::ModuleTypes::module_types))]
 fn case_at(scope: &FunctionScope<'_>, ty: &TypeNode, case: &CaseNode) -> Result<Case, AllocError>
     ensures case { (names : ScopeNames scope.now) →
         IfOk result (λ i. i ≡ case_at (scope_in scope.now names) scope.now.first (ty_of ty.now) (case_of case.now)) }
 {
-    let value = case_number(scope.types, ty, &case.value)?;
+    let value = case_number(scope.globals.types, ty, &case.value)?;
     let to = block_at(scope, &case.block);
     Ok(Case { value, to })
 }

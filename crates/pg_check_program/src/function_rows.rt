@@ -22,7 +22,7 @@ use pg_check_names::{RegisterType, own_names};
 use pg_check_types::{TypeKind, TypeNumbers, index_names};
 use pg_ir::{BlockNo, Function, Instr, Scalar, Scalars};
 use pg_num::Width;
-use pg_read_ast::{DefineItem, Module, Name, TypeNode};
+use pg_read_ast::{DefineItem, Name, TypeNode};
 use std::alloc::{AllocError, Global};
 
 /// The texts of names.
@@ -51,26 +51,23 @@ fn name_places<'a>(
 /// Adds the instructions of a function, whose basic blocks are numbered from `first` on.
 pub(crate) fn add_function(
     globals: &Globals<'_>,
-    types: &TypeNumbers<'_>,
     found: &mut Vec<Instr>,
     item: &DefineItem,
     first: u32,
 ) -> Result<(), AllocError>
-    requires items { types.now.items ≡ globals.now.symbols.tree.now.types.items }
     requires symbols { FewSymbols (tree_of globals.now.symbols.tree.now) }
     requires fits { FunctionFits (tree_of globals.now.symbols.tree.now).types (define_of item.now) }
     requires room { first + length (define_of item.now).blocks ≤ INSTRUCTION_LIMIT }
     ensures instrs { OnOk result (found.new.items ≡ found.old.items ++ function_instrs (tree_of globals.now.symbols.tree.now) first
         (numbered_item (tree_of globals.now.symbols.tree.now).types item.now)) }
 {
-    let own = own_names(globals.alloc, types, item)?;
+    let own = own_names(globals.alloc, globals.types, item)?;
     let names = own.registers.as_slice();
     let label_names = own.labels.as_slice();
     let registers = name_places(globals.alloc, names)?;
     let labels = name_places(globals.alloc, label_names)?;
     let scope = FunctionScope {
         globals,
-        types,
         registers: &registers,
         labels: &labels,
         first,
@@ -145,22 +142,20 @@ fn register_scalars(
 
 /// A function whose basic blocks are numbered from `first` on.
 pub(crate) fn function_at(
-    alloc: Global,
-    types: &TypeNumbers<'_>,
-    tree: &Module,
+    globals: &Globals<'_>,
     item: &DefineItem,
     first: u32,
 ) -> Result<Function, AllocError>
-    requires items { types.now.items ≡ tree.now.types.items }
     requires params { length (define_of item.now).params ≤ FUNCTION_REGISTER_LIMIT }
     requires blocks { length (define_of item.now).blocks ≤ INSTRUCTION_LIMIT }
-    ensures function { IfOk result (λ f. f ≡ function_at (tree_of tree.now) first (numbered_item (tree_of tree.now).types item.now)) }
+    ensures function { IfOk result (λ f. f ≡ function_at (tree_of globals.now.symbols.tree.now) first
+        (numbered_item (tree_of globals.now.symbols.tree.now).types item.now)) }
 {
-    let own = own_names(alloc, types, item)?;
+    let own = own_names(globals.alloc, globals.types, item)?;
     let all = own.types.as_slice();
-    let registers = register_scalars(alloc, types, all)?;
+    let registers = register_scalars(globals.alloc, globals.types, all)?;
     let scalars = Scalars::from_vec(registers);
-    let result = scalar_at(types, &item.result)?;
+    let result = scalar_at(globals.types, &item.result)?;
     let params = item.params.as_slice();
     let blocks = item.blocks.as_slice();
     let param_count = params.len() as u32;

@@ -51,7 +51,7 @@ fn scaled_indices(
 }
 
 /// The scales of indices, constants or not.
-#[tactic(auto, using(pg_check_constants::proofs::ScaleSteps::index_scales_are))]
+#[tactic(auto, using(pg_check_constants::proofs::ScaleSteps::index_scales_are, crate::proofs::ModuleTypes::module_types))]
 fn scales_at(
     scope: &FunctionScope<'_>,
     ty: &TypeNode,
@@ -61,8 +61,13 @@ fn scales_at(
     ensures scales { IfOk result (λ v. v.items ≡
         index_scales (tree_of scope.now.globals.now.symbols.tree.now).types (ty_of ty.now) (map typed_of indices.now)) }
 {
-    let numbers = index_numbers(scope.globals.alloc, scope.types, indices)?;
-    index_scales(scope.globals.alloc, scope.types, ty, numbers.as_slice())
+    let numbers = index_numbers(scope.globals.alloc, scope.globals.types, indices)?;
+    index_scales(
+        scope.globals.alloc,
+        scope.globals.types,
+        ty,
+        numbers.as_slice(),
+    )
 }
 
 /// The indices of a `getelementptr` into a type.

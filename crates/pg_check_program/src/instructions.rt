@@ -209,13 +209,14 @@ fn return_at(scope: &FunctionScope<'_>, value: &TypedVal) -> Result<Op, AllocErr
 }
 
 /// How many elements an `alloca` takes.
+#[tactic(auto, using(crate::proofs::ModuleTypes::module_types))]
 fn count_in(scope: &FunctionScope<'_>, count: &Option<CountNode>) -> Result<u64, AllocError>
     ensures count { (names : ScopeNames scope.now) → IfOk result (λ n. n ≡
         count_in (scope_in scope.now names) (option_map count_of count.now)) }
 {
     match count {
         Some(count) => {
-            let number = literal_at(scope.types, &count.ty, &count.count)?;
+            let number = literal_at(scope.globals.types, &count.ty, &count.count)?;
             Ok(number.unwrap_or(0))
         }
         None => Ok(1),

@@ -1,4 +1,5 @@
 //! The numbered program of a program text that isn't refused.
+// How goals are searched for: see docs/CONTRIBUTING.md.
 #![tactic(auto)]
 
 mod block_rows;
@@ -15,4 +16,4 @@ mod program;
 mod scope;
 
 pub use pg_law_numbering;
-pub use program::{ProgramParts, is_main, program_parts};
+pub use program::{ProgramParts, program_parts};

@@ -112,7 +112,7 @@ fn add_lines(
 {
     let mut at = start;
     for line in lines {
-        let has_result = gives(scope.types, &line.op)?;
+        let has_result = gives(scope.globals.types, &line.op)?;
         let one = op_instr(scope, block, has_result, names, at, &line.op)?;
         found.push(one)?;
         at = place_after(has_result, names, at);

@@ -19,7 +19,7 @@ use crate::function_scope::FunctionScope;
 use crate::scope::register_number;
 use pg_check_constants::{Globals, kind_word, size_or_none};
 use pg_check_rules::{SymbolNode, symbol};
-use pg_check_types::{KnownTypes, TypeKind, TypeNumbers};
+use pg_check_types::{KnownTypes, TypeKind};
 use pg_ir::Value;
 use pg_num::Width;
 use pg_read_ast::{TypeNode, TypedVal, ValNode};
@@ -39,24 +39,18 @@ fn symbol_value(symbol: SymbolNode<'_>) -> Value
 
 /// A constant of a type.
 #[tactic(auto, using(crate::proofs::KindWords::word_of_kind))]
-fn constant_at(
-    globals: &Globals<'_>,
-    types: &TypeNumbers<'_>,
-    ty: &TypeNode,
-    value: &ValNode,
-) -> Result<Value, AllocError>
-    requires items { types.now.items ≡ globals.now.symbols.tree.now.types.items }
+fn constant_at(globals: &Globals<'_>, ty: &TypeNode, value: &ValNode) -> Result<Value, AllocError>
     requires fits { ValFits (tree_of globals.now.symbols.tree.now).types (val_of value.now) }
     ensures constant { IfOk result (λ v. v ≡ Const (constant_word (tree_of globals.now.symbols.tree.now)
-        (resolved (named_types types.now) (ty_of ty.now)) (val_of value.now))) }
+        (resolved (named_types globals.now.types.now) (ty_of ty.now)) (val_of value.now))) }
 {
-    let kind = types.kind(ty)?;
-    let word = kind_word(globals, types, kind, value)?;
+    let kind = globals.types.kind(ty)?;
+    let word = kind_word(globals, kind, value)?;
     Ok(Value::Const(word))
 }
 
 /// A value at a type: a register, a global or a function by its number, and else a constant.
-#[tactic(auto, unfolding(pg_check_rules::specs::Numbered::value_of))]
+#[tactic(auto, using(crate::proofs::ModuleTypes::module_types), unfolding(pg_check_rules::specs::Numbered::value_of))]
 pub(crate) fn value_at(
     scope: &FunctionScope<'_>,
     ty: &TypeNode,
@@ -72,7 +66,7 @@ pub(crate) fn value_at(
             &scope.globals.symbols,
             name.text.as_slice(),
         ))),
-        _ => constant_at(scope.globals, scope.types, ty, value),
+        _ => constant_at(scope.globals, ty, value),
     }
 }
 
@@ -95,12 +89,12 @@ fn kind_width(kind: Option<TypeKind>) -> Width
 }
 
 /// The width of a type's values: of an integer its own, and else 64 bits.
-#[tactic(auto, using(crate::proofs::KindWords::width_of_kind))]
+#[tactic(auto, using(crate::proofs::KindWords::width_of_kind, crate::proofs::ModuleTypes::module_types))]
 pub(crate) fn width_at(scope: &FunctionScope<'_>, ty: &TypeNode) -> Result<Width, AllocError>
     ensures width { (names : ScopeNames scope.now) →
         IfOk result (λ w. w ≡ width_in (type_in (scope_in scope.now names) (ty_of ty.now))) }
 {
-    let kind = scope.types.kind(ty)?;
+    let kind = scope.globals.types.kind(ty)?;
     Ok(kind_width(kind))
 }
 
@@ -118,7 +112,7 @@ pub(crate) fn size_at(scope: &FunctionScope<'_>, ty: &TypeNode) -> Result<u32, A
     ensures size { (names : ScopeNames scope.now) →
         IfOk result (λ n. n ≡ size_or_none (type_in (scope_in scope.now names) (ty_of ty.now))) }
 {
-    let mut known = KnownTypes::new(scope.types);
+    let mut known = KnownTypes::new(scope.globals.types);
     let number = known.number(ty)?;
     Ok(size_or_none(&known, number))
 }

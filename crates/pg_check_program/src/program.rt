@@ -16,6 +16,7 @@ ghost use Rattle.pg_check_program.specs.Room.{FewSymbols, FunctionsFit, ProgramF
 use crate::block_rows::add_blocks;
 use crate::function_rows::{add_function, function_at};
 use pg_check_constants::{Globals, add_globals, index_globals};
+use pg_check_rules::is_main;
 use pg_check_types::TypeNumbers;
 use pg_ir::{Block, Function, GlobalInfo, Instr};
 use pg_read_ast::{DefineItem, Module};
@@ -43,20 +44,14 @@ fn block_behind(first: u32, item: &DefineItem) -> u32
 
 /// The functions of a module by number.
 #[tactic(auto, using(crate::proofs::ProgramRows::rows_none, crate::proofs::ProgramRows::first_block_none))]
-fn functions_of(
-    alloc: Global,
-    types: &TypeNumbers<'_>,
-    tree: &Module,
-    all: &[DefineItem],
-) -> Result<Vec<Function>, AllocError>
-    requires items { types.now.items ≡ tree.now.types.items }
-    requires fits { FunctionsFit (tree_of tree.now).types (map define_of all.now) }
-    ensures functions { IfOk result (λ v. v.items ≡ rows_from (function_row (tree_of tree.now) (map define_of all.now)) 0 all.now) }
+fn functions_of(globals: &Globals<'_>, all: &[DefineItem]) -> Result<Vec<Function>, AllocError>
+    requires fits { FunctionsFit (tree_of globals.now.symbols.tree.now).types (map define_of all.now) }
+    ensures functions { IfOk result (λ v. v.items ≡ rows_from (function_row (tree_of globals.now.symbols.tree.now) (map define_of all.now)) 0 all.now) }
 {
-    let mut found = Vec::new(alloc);
+    let mut found = Vec::new(globals.alloc);
     let mut first = 0;
     for item in all {
-        let one = function_at(alloc, types, tree, item, first)?;
+        let one = function_at(globals, item, first)?;
         found.push(one)?;
         first = block_behind(first, item);
     }
@@ -83,12 +78,7 @@ fn blocks_of(alloc: Global, all: &[DefineItem]) -> Result<Vec<Block>, AllocError
 
 /// The instructions of functions by number.
 #[tactic(auto, using(crate::proofs::ProgramRows::rows_none, crate::proofs::ProgramRows::first_block_none))]
-fn instrs_of(
-    globals: &Globals<'_>,
-    types: &TypeNumbers<'_>,
-    all: &[DefineItem],
-) -> Result<Vec<Instr>, AllocError>
-    requires items { types.now.items ≡ globals.now.symbols.tree.now.types.items }
+fn instrs_of(globals: &Globals<'_>, all: &[DefineItem]) -> Result<Vec<Instr>, AllocError>
     requires symbols { FewSymbols (tree_of globals.now.symbols.tree.now) }
     requires fits { FunctionsFit (tree_of globals.now.symbols.tree.now).types (map define_of all.now) }
     ensures instrs { IfOk result (λ v. v.items ≡ rows_from (instr_row (tree_of globals.now.symbols.tree.now) (map define_of all.now)) 0 all.now) }
@@ -96,17 +86,10 @@ fn instrs_of(
     let mut found = Vec::new(globals.alloc);
     let mut first = 0;
     for item in all {
-        add_function(globals, types, &mut found, item, first)?;
+        add_function(globals, &mut found, item, first)?;
         first = block_behind(first, item);
     }
     Ok(found)
-}
-
-/// Whether a function is `main`.
-pub fn is_main(item: &DefineItem) -> bool
-    ensures { result ≡ is_main_item item.now }
-{
-    item.name.text.as_slice() == b"main".as_slice()
 }
 
 /// The number of the first function that is `main`.
@@ -116,7 +99,7 @@ fn main_place(all: &[DefineItem]) -> Option<usize>
 {
     let mut place = 0;
     while place < all.len() {
-        if is_main(&all[place]) {
+        if is_main(all[place].name.text.as_slice()) {
             return Some(place);
         }
         place += 1;
@@ -137,30 +120,25 @@ fn main_number(all: &[DefineItem]) -> u32
 
 /// The functions and the basic blocks of a module by number.
 fn function_parts(
-    alloc: Global,
-    types: &TypeNumbers<'_>,
-    tree: &Module,
+    globals: &Globals<'_>,
     all: &[DefineItem],
 ) -> Result<(Vec<Function>, Vec<Block>), AllocError>
-    requires items { types.now.items ≡ tree.now.types.items }
-    requires fits { FunctionsFit (tree_of tree.now).types (map define_of all.now) }
+    requires fits { FunctionsFit (tree_of globals.now.symbols.tree.now).types (map define_of all.now) }
     requires few { length all.now ≤ FUNCTION_LIMIT }
     requires lines { sum_by line_count (map define_of all.now) ≤ INSTRUCTION_LIMIT }
-    ensures functions { IfOk result (λ v. v.0.items ≡ rows_from (function_row (tree_of tree.now) (map define_of all.now)) 0 all.now) }
+    ensures functions { IfOk result (λ v. v.0.items ≡ rows_from (function_row (tree_of globals.now.symbols.tree.now) (map define_of all.now)) 0 all.now) }
     ensures blocks { IfOk result (λ v. v.1.items ≡ rows_from (block_row (map define_of all.now)) 0 all.now) }
 {
-    let functions = functions_of(alloc, types, tree, all)?;
-    let blocks = blocks_of(alloc, all)?;
+    let functions = functions_of(globals, all)?;
+    let blocks = blocks_of(globals.alloc, all)?;
     Ok((functions, blocks))
 }
 
 /// The instructions of functions and the globals of their module by number.
 fn instr_parts(
     globals: &Globals<'_>,
-    types: &TypeNumbers<'_>,
     all: &[DefineItem],
 ) -> Result<(Vec<Instr>, Vec<GlobalInfo>), AllocError>
-    requires items { types.now.items ≡ globals.now.symbols.tree.now.types.items }
     requires symbols { FewSymbols (tree_of globals.now.symbols.tree.now) }
     requires fits { FunctionsFit (tree_of globals.now.symbols.tree.now).types (map define_of all.now) }
     requires sizes { GlobalsFit (tree_of globals.now.symbols.tree.now).types (tree_of globals.now.symbols.tree.now).globals }
@@ -168,25 +146,20 @@ fn instr_parts(
     ensures rows { IfOk result (λ v. v.1.items ≡
         map (λ (v : ℕ × Variable). global_at (tree_of globals.now.symbols.tree.now) v.0 v.1) (enumerate_from 0 (tree_of globals.now.symbols.tree.now).globals)) }
 {
-    let instrs = instrs_of(globals, types, all)?;
-    let variables = add_globals(globals, types)?;
+    let instrs = instrs_of(globals, all)?;
+    let variables = add_globals(globals)?;
     Ok((instrs, variables))
 }
 
 /// The parts of a module's numbered program, where its globals are known.
-fn parts_among(
-    globals: &Globals<'_>,
-    types: &TypeNumbers<'_>,
-    tree: &Module,
-) -> Result<ProgramParts, AllocError>
-    requires same { globals.now.symbols.tree.now ≡ tree.now }
-    requires items { types.now.items ≡ tree.now.types.items }
-    requires fits { ProgramFits (tree_of tree.now) }
-    ensures program { IfOk result (λ p. numbered_program p.functions.items p.blocks.items p.instrs.items p.globals.items p.main ≡ program_of (tree_of tree.now)) }
+fn parts_among(globals: &Globals<'_>) -> Result<ProgramParts, AllocError>
+    requires fits { ProgramFits (tree_of globals.now.symbols.tree.now) }
+    ensures program { IfOk result (λ p. numbered_program p.functions.items p.blocks.items p.instrs.items p.globals.items p.main
+        ≡ program_of (tree_of globals.now.symbols.tree.now)) }
 {
-    let all = tree.functions.as_slice();
-    let (functions, blocks) = function_parts(globals.alloc, types, tree, all)?;
-    let (instrs, variables) = instr_parts(globals, types, all)?;
+    let all = globals.symbols.tree.functions.as_slice();
+    let (functions, blocks) = function_parts(globals, all)?;
+    let (instrs, variables) = instr_parts(globals, all)?;
     let main = main_number(all);
     Ok(ProgramParts {
         functions,
@@ -198,17 +171,17 @@ fn parts_among(
 }
 
 /// The parts of a module's numbered program, where its numbers and sizes fit.
-fn parts_of(
+fn parts_of<'a>(
     alloc: Global,
-    types: &TypeNumbers<'_>,
-    tree: &Module,
+    types: &'a TypeNumbers<'a>,
+    tree: &'a Module,
 ) -> Result<ProgramParts, AllocError>
     requires items { types.now.items ≡ tree.now.types.items }
     requires fits { ProgramFits (tree_of tree.now) }
     ensures program { IfOk result (λ p. numbered_program p.functions.items p.blocks.items p.instrs.items p.globals.items p.main ≡ program_of (tree_of tree.now)) }
 {
     let globals = index_globals(alloc, types, tree)?;
-    parts_among(&globals, types, tree)
+    parts_among(&globals)
 }
 
 /// The numbered program of a module that isn't refused: functions, basic blocks, instructions, globals, registers and

@@ -97,7 +97,7 @@ fn up_to(types: &KnownTypes<'_>, number: usize, count: usize) -> usize
     ensures fields { length (field_list (type_at (table_of types.now) result)) ≡ count }
 {
     let mut rest = number;
-    // The label names the loop for its invariant.
+    // The label is for the proof: see docs/CONTRIBUTING.md.
     'rest: while types.layout_of_number(rest).fields > count {
         rest = nearer(types, rest, count);
     }
@@ -159,7 +159,7 @@ pub fn fields_of(
 {
     let mut fields = Vec::new(alloc);
     let mut rest = number;
-    // The label names the loop for its invariant.
+    // The label is for the proof: see docs/CONTRIBUTING.md.
     'fields: loop {
         match last_field(types, rest) {
             Some(last) => {

@@ -1,8 +1,9 @@
-//! The known functions by their names.
+//! The known functions, and the one with which a program begins, by their names.
 
 ghost use Rattle.std.specs.Prelude.{◌≡◌};
 ghost use Rattle.std.specs.List.{find};
 ghost use Rattle.std.specs.Str.{bytes_eq};
+ghost use Rattle.pg_check_rules.specs.Conditions.{main_name};
 ghost use Rattle.pg_check_rules.specs.KnownNames.{known_name, known_named};
 
 use pg_ir::LibraryCall;
@@ -83,4 +84,11 @@ pub fn known_named(text: &[u8]) -> Option<LibraryCall>
     ensures { result ≡ known_named text.now }
 {
     known_among(&KNOWN_FUNCTIONS, text)
+}
+
+/// Whether a name is that of the function with which a program begins.
+pub fn is_main(text: &[u8]) -> bool
+    ensures { result ≡ bytes_eq text.now main_name }
+{
+    text == b"main".as_slice()
 }

@@ -1,5 +1,6 @@
 //! The rules of program texts: what is refused, and which numbered program an accepted text stands for; and what each part
 //! of the checks looks up.
+// How goals are searched for: see docs/CONTRIBUTING.md.
 #![tactic(auto)]
 
 mod earliest;
@@ -24,7 +25,7 @@ pub use fault::{CheckFault, CheckKind};
 pub use fields::{LastField, chosen_of, element_in, fields_of, nth_field};
 pub use granules::granules_for;
 pub use integers::{constant_number, index_numbers, literal_at, number_at};
-pub use known::known_named;
+pub use known::{is_main, known_named};
 pub use own_names::{numbered_name, param_names, references};
 pub use places::{type_span, val_span};
 pub use refusals::{CheckRefusal, earlier_refusal, name_or_type_refusal, refusal_at};

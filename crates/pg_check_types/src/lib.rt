@@ -1,4 +1,5 @@
 //! Types with their names read through: their numbers in a table, how they lie in memory, and literals of a width.
+// How goals are searched for: see docs/CONTRIBUTING.md.
 #![tactic(auto)]
 
 mod cap;

@@ -130,7 +130,7 @@ impl<'b> TypeTable<'b> {
         requires other { other < length (types_of self.now) }
         ensures { result ≡ same_type (type_at (types_of self.now) one) (type_at (types_of self.now) other) }
     {
-        // What the table's fields keep says that no shape stands twice.
+        // Read for the proof: see docs/CONTRIBUTING.md. No shape stands twice.
         let _shapes = &self.more;
         one == other
     }
@@ -206,7 +206,7 @@ impl<'b> TypeTable<'b> {
             Some (MoreFields (type_at (types_of self.old) front) (type_at (types_of self.old) field))) }
         ensures grows { Grows (types_of self.old) (types_of self.new) }
     {
-        // That the types are counted says that a structure's fields are.
+        // Called for the proof: see docs/CONTRIBUTING.md. The types are counted, so a structure's fields are.
         let _count = self.len();
         let shorter = self.shorter_behind(front);
         let layout = field_layout(self.layout(front), self.layout(field), shorter);

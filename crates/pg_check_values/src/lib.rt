@@ -1,4 +1,5 @@
 //! What values are refused for, at the types at which they stand.
+// How goals are searched for: see docs/CONTRIBUTING.md.
 #![tactic(auto)]
 
 mod indices;

@@ -35,7 +35,7 @@ fn type_of_register<'a>(scope: &ValueScope<'a>, name: &Name) -> Option<RegisterT
         option_map (register_type g.tree.types) result ≡ option_map (λ (r : Register). r.ty) (register_named g.registers name.now.text) }
 {
     let place = place_of_name(scope.registers, name.text.as_slice());
-    type_at(scope.types, place)
+    type_at(scope.register_types, place)
 }
 
 /// Whether a type is one, and other than a register's.
@@ -87,14 +87,13 @@ fn is_wrong_register(
 /// Whether a register of a name has another type, or stands where none may.
 pub(crate) fn wrong_register(
     scope: &ValueScope<'_>,
-    types: &TypeNumbers<'_>,
     constant: bool,
     ty: &TypeNode,
     name: &Name,
 ) -> Result<bool, AllocError>
-    ensures wrong { (g : Scope) → IsScope scope.now g → g.tree.types ≡ named_types types.now →
+    ensures wrong { (g : Scope) → IsScope scope.now g →
         IfOk result (λ b. b ≡ wrong_register constant (resolved g.tree.types (ty_of ty.now)) (register_named g.registers name.now.text)) }
 {
     let register = type_of_register(scope, name);
-    is_wrong_register(types, constant, register, ty)
+    is_wrong_register(scope.types, constant, register, ty)
 }

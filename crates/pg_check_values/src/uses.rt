@@ -30,19 +30,14 @@ use pg_read_lex::Span;
 use std::alloc::{AllocError, Global};
 
 /// Whether a global or a function of a name, if there is one, stands where no pointer may.
-fn wrong_symbol(
-    scope: &ValueScope<'_>,
-    types: &TypeNumbers<'_>,
-    ty: &TypeNode,
-    name: &Name,
-) -> Result<bool, AllocError>
-    ensures wrong { (g : Scope) → IsScope scope.now g → g.tree.types ≡ named_types types.now →
+fn wrong_symbol(scope: &ValueScope<'_>, ty: &TypeNode, name: &Name) -> Result<bool, AllocError>
+    ensures wrong { (g : Scope) → IsScope scope.now g →
         IfOk result (λ b. b ≡ wrong_symbol (resolved g.tree.types (ty_of ty.now)) (symbol g.tree name.now.text)) }
 {
     match symbol(scope.symbols, name.text.as_slice()) {
         SymbolNode::Unknown => Ok(false),
         _ => {
-            let kind = types.kind(ty)?;
+            let kind = scope.types.kind(ty)?;
             Ok(fails_kind(TypeTest::Pointer, kind))
         }
     }
@@ -51,33 +46,28 @@ fn wrong_symbol(
 /// Whether a value may not stand at a type.
 fn is_wrong(
     scope: &ValueScope<'_>,
-    types: &TypeNumbers<'_>,
     constant: bool,
     ty: &TypeNode,
     value: &ValNode,
 ) -> Result<bool, AllocError>
-    ensures wrong { (g : Scope) → IsScope scope.now g → g.tree.types ≡ named_types types.now →
+    ensures wrong { (g : Scope) → IsScope scope.now g →
         IfOk result (λ b. b ≡ is_wrong g constant (resolved g.tree.types (ty_of ty.now)) (val_of value.now)) }
 {
     match value {
-        ValNode::Local(name) => wrong_register(scope, types, constant, ty, name),
-        ValNode::Global(name) => wrong_symbol(scope, types, ty, name),
-        _ => is_misplaced(types, ty, value),
+        ValNode::Local(name) => wrong_register(scope, constant, ty, name),
+        ValNode::Global(name) => wrong_symbol(scope, ty, name),
+        _ => is_misplaced(scope.types, ty, value),
     }
 }
 
 /// The place of a value that may not stand at its type.
 #[tactic(auto, unfolding(pg_check_rules::specs::Earliest::earliest))]
-fn wrong_place(
-    scope: &ValueScope<'_>,
-    types: &TypeNumbers<'_>,
-    used: PlacedValue<'_>,
-) -> Result<Option<Span>, AllocError>
-    ensures place { (g : Scope) → IsScope scope.now g → g.tree.types ≡ named_types types.now →
+fn wrong_place(scope: &ValueScope<'_>, used: PlacedValue<'_>) -> Result<Option<Span>, AllocError>
+    ensures place { (g : Scope) → IsScope scope.now g →
         IfOk result (λ o. o ≡ earliest (if is_wrong g used.entry.constant (resolved g.tree.types (ty_of used.entry.ty.now)) (val_of used.entry.value.now)
         then val_span (val_of used.entry.value.now) ∷ [] else [])) }
 {
-    if is_wrong(scope, types, used.constant, used.ty, used.value)? {
+    if is_wrong(scope, used.constant, used.ty, used.value)? {
         Ok(Some(val_span(used.value)))
     } else {
         Ok(None)
@@ -157,17 +147,13 @@ fn wrong_own_indices(
 }
 
 /// The earliest place at which a value, those within it aside, doesn't fit.
-fn wrong_use(
-    scope: &ValueScope<'_>,
-    types: &TypeNumbers<'_>,
-    used: PlacedValue<'_>,
-) -> Result<Option<Span>, AllocError>
-    ensures place { (g : Scope) → IsScope scope.now g → g.tree.types ≡ named_types types.now →
+fn wrong_use(scope: &ValueScope<'_>, used: PlacedValue<'_>) -> Result<Option<Span>, AllocError>
+    ensures place { (g : Scope) → IsScope scope.now g →
         IfOk result (λ o. o ≡ earliest (wrong_use g (placed_use used.entry))) }
 {
-    let own = wrong_place(scope, types, used)?;
-    let asked = unmet_own(types, used.value)?;
-    let indices = wrong_own_indices(scope.alloc, types, used.value)?;
+    let own = wrong_place(scope, used)?;
+    let asked = unmet_own(scope.types, used.value)?;
+    let indices = wrong_own_indices(scope.alloc, scope.types, used.value)?;
     Ok(earlier(own, earlier(asked, indices)))
 }
 
@@ -203,30 +189,25 @@ pub fn wrong_literal(
 /// The earliest place at which a value within a value doesn't fit.
 #[cycle(wrong)]
 #[tactic(auto, unfolding(pg_check_rules::specs::Earliest::earliest, pg_check_rules::specs::Written::inner_uses, pg_check_rules::specs::Written::index_uses))]
-fn wrong_within(
-    scope: &ValueScope<'_>,
-    types: &TypeNumbers<'_>,
-    value: &ValNode,
-) -> Result<Option<Span>, AllocError>
-    ensures place { (g : Scope) → IsScope scope.now g → g.tree.types ≡ named_types types.now →
+fn wrong_within(scope: &ValueScope<'_>, value: &ValNode) -> Result<Option<Span>, AllocError>
+    ensures place { (g : Scope) → IsScope scope.now g →
         IfOk result (λ o. o ≡ earliest (flat_map (wrong_use g) (inner_uses (val_of value.now)))) }
 {
     match value {
         ValNode::GetElementPtr(_, _, pointer, base, indices) => {
             let own = wrong_use(
                 scope,
-                types,
                 PlacedValue {
                     constant: true,
                     ty: pointer,
                     value: base,
                 },
             )?;
-            let within = wrong_within(scope, types, base)?;
-            let others = wrong_index_uses(scope, types, indices.as_slice())?;
+            let within = wrong_within(scope, base)?;
+            let others = wrong_index_uses(scope, indices.as_slice())?;
             Ok(earlier(earlier(own, within), others))
         }
-        ValNode::IntToPtr(_, ty, literal, _) => wrong_literal(types, ty, literal),
+        ValNode::IntToPtr(_, ty, literal, _) => wrong_literal(scope.types, ty, literal),
         _ => Ok(None),
     }
 }
@@ -234,24 +215,22 @@ fn wrong_within(
 #[cycle(wrong)]
 fn wrong_index_uses(
     scope: &ValueScope<'_>,
-    types: &TypeNumbers<'_>,
     indices: &[TypedVal],
 ) -> Result<Option<Span>, AllocError>
-    ensures place { (g : Scope) → IsScope scope.now g → g.tree.types ≡ named_types types.now →
+    ensures place { (g : Scope) → IsScope scope.now g →
         IfOk result (λ o. o ≡ earliest (flat_map (index_row (wrong_use g)) (map typed_of indices.now))) }
 {
     let mut found = None;
     for index in indices {
         let own = wrong_use(
             scope,
-            types,
             PlacedValue {
                 constant: true,
                 ty: &index.ty,
                 value: &index.value,
             },
         )?;
-        let within = wrong_within(scope, types, &index.value)?;
+        let within = wrong_within(scope, &index.value)?;
         found = earlier(found, earlier(own, within));
     }
     Ok(found)
@@ -260,13 +239,12 @@ fn wrong_index_uses(
 /// The earliest place at which a value or one within it doesn't fit.
 pub fn wrong_values(
     scope: &ValueScope<'_>,
-    types: &TypeNumbers<'_>,
     used: PlacedValue<'_>,
 ) -> Result<Option<Span>, AllocError>
-    ensures place { (g : Scope) → IsScope scope.now g → g.tree.types ≡ named_types types.now →
+    ensures place { (g : Scope) → IsScope scope.now g →
         IfOk result (λ o. o ≡ earliest (flat_map (wrong_use g) (with_inner (placed_use used.entry)))) }
 {
-    let own = wrong_use(scope, types, used)?;
-    let within = wrong_within(scope, types, used.value)?;
+    let own = wrong_use(scope, used)?;
+    let within = wrong_within(scope, used.value)?;
     Ok(earlier(own, within))
 }

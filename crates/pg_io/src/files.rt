@@ -92,6 +92,7 @@ fn read_whole<F: Read>(alloc: Global, file: &mut F, limit: usize) -> Result<Vec<
 {
     let mut bytes = Vec::new(alloc);
     let mut piece = [0; PIECE];
+    // The label is for the proof: see docs/CONTRIBUTING.md.
     'reads: while bytes.len() <= limit {
         let room = PIECE.min((limit - bytes.len()).saturating_add(1));
         match file.read(&mut piece[..room]) {

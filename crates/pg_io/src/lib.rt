@@ -1,6 +1,7 @@
 //! Where bytes come from and go to: a source that is read, a sink that is written to, and a shelf of texts by name.
 //!
 //! Each keeps a count of its faults, so that a caller can tell a fault of the outside from its own.
+// How goals are searched for: see docs/CONTRIBUTING.md.
 #![tactic(auto)]
 
 mod adapters;

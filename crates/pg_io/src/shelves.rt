@@ -148,6 +148,7 @@ fn copied(alloc: Global, text: &[u8], limit: usize) -> Result<Vec<u8>, FetchFaul
 fn found<'a>(files: &'a [(String, Vec<u8>)], name: &str) -> Option<&'a [u8]>
     ensures { option_copied result ≡ text_in (named_texts files.now) name.now }
 {
+    // The label is for the proof: see docs/CONTRIBUTING.md.
     'files: for place in 0..files.len() {
         if files[place].0.as_str() == name {
             return Some(files[place].1.as_slice());

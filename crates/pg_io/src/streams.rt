@@ -47,6 +47,7 @@ pub fn read_all<S: Source>(
 {
     let mut bytes = Vec::new(alloc);
     let mut piece = [0; PIECE];
+    // The label is for the proof: see docs/CONTRIBUTING.md.
     'reads: while bytes.len() <= limit {
         let room = PIECE.min(limit + 1 - bytes.len());
         match src.read(&mut piece[..room]) {

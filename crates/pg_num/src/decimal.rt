@@ -79,8 +79,8 @@ fn without_sign(text: &[u8]) -> &[u8]
     }
 }
 
-/// Whether a text is one or more digits, and nothing else.
-fn are_all_digits(text: &[u8]) -> bool
+/// Whether a text is one or more decimal digits, and nothing else.
+pub fn are_all_digits(text: &[u8]) -> bool
     ensures { result ≡ are_digits text.now }
 {
     !text.is_empty() && has_only_digits(text)

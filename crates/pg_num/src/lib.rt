@@ -1,5 +1,6 @@
 //! Numbers of fixed width, pointers, places in memory, decimal text, and the project's limits.
 //! No call takes memory.
+// How goals are searched for: see docs/CONTRIBUTING.md.
 #![tactic(auto)]
 
 mod access;
@@ -25,7 +26,7 @@ pub use arithmetic::{add, mul, sub};
 pub use bitwise::bits;
 pub use casts::{sext, trunc};
 pub use comparison::compare;
-pub use decimal::{digits_in_64_bits, digits_in_i64, digits_in_u64};
+pub use decimal::{are_all_digits, digits_in_64_bits, digits_in_i64, digits_in_u64};
 pub use division::divide;
 pub use operations::{Bits, Compare, DivideFault, Division, Shift};
 pub use places::{Place, PlaceFault};

@@ -66,6 +66,7 @@ fn body_parts(text: &Text<'_>, at: usize) -> Read<Vec<BlockNode>>
     let after = AfterPart::Complete;
     let mut body = Body { blocks, after };
     let mut place = at;
+    // The label is for the proof: see docs/CONTRIBUTING.md.
     'reading: while part_next(text.tokens, place, &body.after) {
         match next_part(text, place, body) {
             Err(error) => return Err(error),

@@ -1,4 +1,5 @@
 //! The reader of program texts.
+// How goals are searched for: see docs/CONTRIBUTING.md.
 #![tactic(auto)]
 
 mod body;

@@ -89,6 +89,7 @@ fn more_params(text: &Text<'_>, at: usize, all: Vec<ParamNode>) -> Read<Vec<Para
 {
     let mut all = all;
     let mut place = at;
+    // The label is for the proof: see docs/CONTRIBUTING.md.
     'items: while next_is(text.tokens, place, Class::Comma) {
         match comma_param(text, place) {
             Err(error) => return Err(error),
@@ -136,6 +137,7 @@ fn more_declared(text: &Text<'_>, at: usize, all: Vec<DparamNode>) -> Read<Vec<D
 {
     let mut all = all;
     let mut place = at;
+    // The label is for the proof: see docs/CONTRIBUTING.md.
     'items: while next_is(text.tokens, place, Class::Comma) {
         match comma_declared(text, place) {
             Err(error) => return Err(error),

@@ -139,6 +139,7 @@ pub fn program(text: &Text<'_>) -> Read<Module>
     let after = AfterItem::Done;
     let mut items = Items { tree, after };
     let mut place = 0;
+    // The label is for the proof: see docs/CONTRIBUTING.md.
     'reading: while item_next(text.tokens, place, items.after) {
         match next_item(text, place, items) {
             Err(error) => return Err(error),

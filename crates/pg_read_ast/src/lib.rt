@@ -1,4 +1,5 @@
 //! The syntax of a program text as a tree, and its canonical text.
+// How goals are searched for: see docs/CONTRIBUTING.md.
 #![tactic(auto)]
 
 mod names;

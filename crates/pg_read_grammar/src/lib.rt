@@ -1,4 +1,5 @@
 //! The grammar of program texts: the classes of tokens, the definitions and their laws.
+// How goals are searched for: see docs/CONTRIBUTING.md.
 #![tactic(auto)]
 
 mod class;

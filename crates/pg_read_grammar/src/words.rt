@@ -1,14 +1,13 @@
 //! The tokens of a text with their classes.
 
 ghost use Rattle.std.specs.Prelude.{◌≡◌, ◌≤◌, length, map, IfOk};
-ghost use Rattle.std.specs.List.{list_all};
 ghost use Rattle.pg_read_lex.specs.Tokens.{IsAscending};
-ghost use Rattle.pg_num.specs.Decimal.{are_digits, is_digit};
 ghost use Rattle.pg_num.specs.declared.limits.TheConstants.{PROGRAM_TEXT_LIMIT};
 ghost use Rattle.pg_read_grammar.specs.Words.{is_integer_type, class_by_form, class_in, row_of, words, word_class, is_dropped, is_debug, class_of, bytes_at, seen, classified};
 
 use crate::class::{Class, WORDS, WordClass};
 use crate::token::Token;
+use pg_num::are_all_digits;
 use pg_read_ast::Bytes;
 use pg_read_lex::{Span, TokenKind, token_bytes};
 use std::alloc::{AllocError, Global};
@@ -175,18 +174,6 @@ fn is_sized(word: &[u8]) -> bool
 {
     match word {
         [] => false,
-        [first, rest @ ..] => *first == b'i' && are_digits(rest),
+        [first, rest @ ..] => *first == b'i' && are_all_digits(rest),
     }
-}
-
-fn are_digits(text: &[u8]) -> bool
-    ensures { result ≡ are_digits text.now }
-{
-    !text.is_empty() && all_digits(text)
-}
-
-fn all_digits(text: &[u8]) -> bool
-    ensures { result ≡ list_all is_digit text.now }
-{
-    text.iter().all(|b| *b >= b'0' && *b <= b'9')
 }

@@ -1,15 +1,16 @@
 //! The tokens of a text, or its first lexical fault.
 
 ghost use Rattle.std.specs.Prelude.{◌≡◌, ◌≤◌, ◌<◌, ◌+◌, ◌-◌, ◌≢◌, length, drop, IfOk, IfErr, IfSome, Ok, Err, not, take_while, position};
-ghost use Rattle.std.specs.List.{list_all, list_any};
+ghost use Rattle.std.specs.List.{list_any};
 ghost use Rattle.pg_read_lex.specs.Bytes.{is_blank, is_line_feed, is_quote, is_colon, is_plus, is_letter, is_run_byte, begins};
 ghost use Rattle.pg_read_lex.specs.Tokens.{run, string_length, is_name, is_dots, is_c, begins_word, with_string, run_piece};
 ghost use Rattle.pg_read_lex.specs.Tokens.{string_piece, named_piece, mark_of, marked_piece, piece_of, IsWithin, tokens};
 ghost use Rattle.pg_read_lex.specs.Tokens.{IsAscending};
-ghost use Rattle.pg_num.specs.Decimal.{are_digits, is_decimal, is_digit};
+ghost use Rattle.pg_num.specs.Decimal.{is_decimal, is_digit};
 ghost use Rattle.pg_num.specs.declared.limits.TheConstants.{PROGRAM_TEXT_LIMIT};
 
 use crate::token::{LexFault, Piece, Span, Token, TokenKind};
+use pg_num::are_all_digits;
 use std::alloc::Global;
 
 /// The tokens of a text in order, or its first fault: the first place at which no token begins and no
@@ -23,6 +24,7 @@ pub fn lex(alloc: Global, text: &[u8]) -> Result<Vec<Token>, LexFault>
 {
     let mut found = Vec::new(alloc);
     let mut at = 0;
+    // The label is for the proof: see docs/CONTRIBUTING.md.
     'lexing: while at < text.len() {
         match piece_at(text, at) {
             Piece::Gap(size) => at += size,
@@ -252,24 +254,12 @@ fn is_integer(run: &[u8]) -> bool
         [] => false,
         [first, rest @ ..] => {
             if *first == b'-' {
-                are_digits(rest)
+                are_all_digits(rest)
             } else {
-                are_digits(run)
+                are_all_digits(run)
             }
         }
     }
-}
-
-fn are_digits(run: &[u8]) -> bool
-    ensures { result ≡ are_digits run.now }
-{
-    !run.is_empty() && all_decimal(run)
-}
-
-fn all_decimal(run: &[u8]) -> bool
-    ensures { result ≡ list_all is_digit run.now }
-{
-    run.iter().all(|b| is_decimal_digit(*b))
 }
 
 fn are_dots(run: &[u8]) -> bool

@@ -1,4 +1,5 @@
 //! The tokens of a program text, with the places of each.
+// How goals are searched for: see docs/CONTRIBUTING.md.
 #![tactic(auto)]
 
 mod lexer;

@@ -66,6 +66,7 @@ fn unescape(alloc: Global, text: &[u8]) -> Result<Vec<u8>, AllocError>
 {
     let mut bytes = Vec::new(alloc);
     let mut at = 0;
+    // The label is for the proof: see docs/CONTRIBUTING.md.
     'reading: while at < text.len() {
         let (byte, size) = escape_at(text, at);
         bytes.push(byte)?;

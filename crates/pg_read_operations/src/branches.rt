@@ -106,6 +106,7 @@ fn cases(text: &Text<'_>, at: usize) -> Read<Vec<CaseNode>>
 {
     let mut all = Vec::new(text.alloc);
     let mut place = at;
+    // The label is for the proof: see docs/CONTRIBUTING.md.
     'items: while next_in(text.tokens, place, ClassSet::Type) {
         match case(text, place) {
             Err(error) => return Err(error),

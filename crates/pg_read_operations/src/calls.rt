@@ -137,6 +137,7 @@ fn more_arguments(text: &Text<'_>, at: usize, all: Vec<ArgNode>) -> Read<Vec<Arg
 {
     let mut all = all;
     let mut place = at;
+    // The label is for the proof: see docs/CONTRIBUTING.md.
     'items: while next_is(text.tokens, place, Class::Comma) {
         match comma_argument(text, place) {
             Err(error) => return Err(error),

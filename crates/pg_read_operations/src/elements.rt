@@ -77,6 +77,7 @@ fn more_indices(text: &Text<'_>, at: usize) -> Read<Listing<TypedVal>>
         comma: false,
     };
     let mut place = at;
+    // The label is for the proof: see docs/CONTRIBUTING.md.
     'items: while type_goes_on(text.tokens, place, listing.comma) {
         match index_or_comma(text, place, listing) {
             Err(error) => return Err(error),

@@ -91,6 +91,7 @@ fn more_incoming(text: &Text<'_>, at: usize) -> Read<Listing<IncomingNode>>
         comma: false,
     };
     let mut place = at;
+    // The label is for the proof: see docs/CONTRIBUTING.md.
     'items: while square_goes_on(text.tokens, place, listing.comma) {
         match incoming_or_comma(text, place, listing) {
             Err(error) => return Err(error),

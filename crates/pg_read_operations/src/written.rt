@@ -84,6 +84,7 @@ fn more_written(text: &Text<'_>, at: usize) -> Read<Listing<TypeNode>>
         comma: false,
     };
     let mut place = at;
+    // The label is for the proof: see docs/CONTRIBUTING.md.
     'items: while type_goes_on(text.tokens, place, listing.comma) {
         match type_or_comma(text, place, listing) {
             Err(error) => return Err(error),

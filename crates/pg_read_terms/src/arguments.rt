@@ -131,6 +131,7 @@ fn attributed(text: &Text<'_>, at: usize) -> Read<ValNode>
 {
     let mut state = Pending::Fresh;
     let mut place = at;
+    // The label is for the proof: see docs/CONTRIBUTING.md.
     'items: while pending_next(text.tokens, place, &state) {
         match take_pending(text.tokens, place, state) {
             Err(refusal) => return Err(ReadError::Refused(refusal)),

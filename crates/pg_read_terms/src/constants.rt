@@ -109,6 +109,7 @@ fn more_constants(
 {
     let mut all = all;
     let mut place = at;
+    // The label is for the proof: see docs/CONTRIBUTING.md.
     'items: while next_is(text.tokens, place, Class::Comma) {
         match comma_constant(text, place, depth) {
             Err(error) => return Err(error),

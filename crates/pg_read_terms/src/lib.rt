@@ -2,6 +2,7 @@
 //!
 //! A function reads from a place in the tokens and gives what it read and the place after it. It fails where
 //! memory runs out, and else with the first token with which what it reads can't go on, and its fault.
+// How goals are searched for: see docs/CONTRIBUTING.md.
 #![tactic(auto)]
 
 mod arguments;

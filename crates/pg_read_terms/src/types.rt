@@ -155,6 +155,7 @@ fn more_types(text: &Text<'_>, at: usize, depth: u32, types: Vec<TypeNode>) -> R
 {
     let mut types = types;
     let mut place = at;
+    // The label is for the proof: see docs/CONTRIBUTING.md.
     'items: while next_is(text.tokens, place, Class::Comma) {
         match comma_type(text, place, depth) {
             Err(error) => return Err(error),

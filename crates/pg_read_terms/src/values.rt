@@ -191,6 +191,7 @@ fn more_values(text: &Text<'_>, at: usize, depth: u32) -> Read<Vec<TypedVal>>
 {
     let mut values = Vec::new(text.alloc);
     let mut place = at;
+    // The label is for the proof: see docs/CONTRIBUTING.md.
     'items: while next_is(text.tokens, place, Class::Comma) {
         match comma_value(text, place, depth) {
             Err(error) => return Err(error),

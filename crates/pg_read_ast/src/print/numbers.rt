@@ -2,11 +2,12 @@
 
 ghost use Rattle.std.specs.Prelude.{◌≡◌, ◌++◌, ◌+◌, ◌-◌, ◌≤◌, ◌<◌, OnOk, max, ◌||◌, ◌&&◌, ◌==◌, nat_lt, IfOk, true, length, take, replicate, get_or};
 ghost use Rattle.std.specs.List.{list_all};
-ghost use Rattle.pg_read_lex.specs.pg_num.Decimal.{is_digit, are_digits, natural_of};
+ghost use Rattle.pg_read_lex.specs.pg_num.Decimal.{is_digit, natural_of};
 ghost use Rattle.pg_read_ast.specs.Numbers.{digits_text, decimal_text, after_name};
 ghost use Rattle.pg_read_ast.specs.Digits.{IsPlain, padded};
 
 use crate::print::names::{put, put_text};
+use pg_read_lex::pg_num::are_all_digits;
 use std::alloc::{AllocError, Global};
 use std::marker::Model;
 
@@ -86,7 +87,7 @@ fn after_digits(alloc: Global, digits: &[u8], text: &[u8]) -> Result<Vec<u8>, Al
     requires { IsPlain digits.now }
     ensures { IfOk result (λ v. v.items ≡ digits_text (after_name (natural_of digits.now) text.now)) }
 {
-    if is_number(text) {
+    if are_all_digits(text) {
         greater(alloc, digits, text)
     } else {
         digits.to_vec(alloc)
@@ -104,19 +105,6 @@ fn greater(alloc: Global, digits: &[u8], text: &[u8]) -> Result<Vec<u8>, AllocEr
     } else {
         successor(alloc, behind_zeros(text))
     }
-}
-
-/// Whether a text is one or more digits, and nothing else.
-fn is_number(text: &[u8]) -> bool
-    ensures { result ≡ are_digits text.now }
-{
-    !text.is_empty() && all_digits(text)
-}
-
-fn all_digits(text: &[u8]) -> bool
-    ensures { result ≡ list_all is_digit text.now }
-{
-    text.iter().all(|&byte| b'0' <= byte && byte <= b'9')
 }
 
 /// The same number without leading zeros.

@@ -22,7 +22,6 @@ returns c = record {
       same_places (all_of (block_refused g) (map block_of c.as_slice-3.result.now)) (all_of (line_refused g) (all_lines (numbered m.types item))) c.in_ok-found.found
       (λ kind. ap (λ bs. flat_map (λ b. block_refused g b kind) (map block_of bs)) c.as_slice-3.ensures.value ∙ sym (all_lines_refused g item kind))
       (c.in_ok-found.ensures.first g
-      (scope_is m item c.args.own.now _ (sym e) own (λ text. c.in_ok-registers.ensures text ∙ ap (λ ns. label_number ns text) c.as_slice.ensures.value) c.as_slice-2.ensures.value
-      c.requires.labels refl)
-      t);
+      (scope_is m item c.args.own.now _ (sym e) t own (λ text. c.in_ok-registers.ensures text ∙ ap (λ ns. label_number ns text) c.as_slice.ensures.value) c.as_slice-2.ensures.value
+      c.requires.labels refl));
 }

@@ -11,13 +11,13 @@ use Rattle.pg_check_bodies.proofs.line_parts.unmet_demands.Goals as goal
 
 pub returns : goal.returns
 returns c = record {
-  place = λ g s t.
+  place = λ g s.
       let op = op_of c.args.op.now in
       let returned = ty_of c.args.scope.now.result.now in
       two_rows (unmet g.tree.types) (op_demands g.tree.types g.result op) (call_demands g op) c.in_ok-own.own c.in_ok-arguments.arguments c.earlier.result
       (c.in_ok-own.ensures.place
-      ∙ ap (λ types. earliest (flat_map (unmet types) (op_demands types (resolved types returned) op))) (sym t)
+      ∙ ap (λ types. earliest (flat_map (unmet types) (op_demands types (resolved types returned) op))) (sym s.values.types)
       ∙ ap (λ r. earliest (flat_map (unmet g.tree.types) (op_demands g.tree.types r op))) (sym s.result))
-      (c.in_ok-arguments.ensures.place g s t)
+      (c.in_ok-arguments.ensures.place g s)
       c.earlier.ensures;
 }

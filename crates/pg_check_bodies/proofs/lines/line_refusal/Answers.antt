@@ -25,7 +25,7 @@ kinds g l _ = refl
 pub returns : goal.returns
 unfolding line_refused
 returns c = record {
-  first = λ g s e.
+  first = λ g s.
       let part = line_refused g (line_of c.args.line.now) in
       let written = c.in_ok-written.ensures in
       let uses = c.in_ok-uses.ensures g s in
@@ -35,9 +35,9 @@ returns c = record {
       same_places (joined named (joined block unsupported)) part c.earlier_refusal.result (kinds g (line_of c.args.line.now))
       (c.earlier_refusal.ensures named (joined block unsupported)
       (c.name_or_type_refusal-named.ensures (part UnknownName) (part Doubled) (part WrongType)
-      (c.unknown_in_line-unknown.ensures g s e (ap (λ ts. tys_behind ts) c.as_slice.ensures.value ∙ written) (ap (λ us. uses_of us) c.as_slice-2.ensures.value ∙ uses))
-      (c.in_ok-doubled.ensures.place g e)
-      (c.in_ok-wrong.ensures.place g s e
+      (c.unknown_in_line-unknown.ensures g s (ap (λ ts. tys_behind ts) c.as_slice.ensures.value ∙ written) (ap (λ us. uses_of us) c.as_slice-2.ensures.value ∙ uses))
+      (c.in_ok-doubled.ensures.place g s)
+      (c.in_ok-wrong.ensures.place g s
       (ap (λ ts. tys_behind ts) c.as_slice-3.ensures.value ∙ written) (ap (λ us. uses_of us) c.as_slice-4.ensures.value ∙ uses)))
       (c.earlier_refusal-other.ensures block unsupported
       (c.refusal_at.ensures (part NoBlock) (c.in_ok-block.ensures g s))

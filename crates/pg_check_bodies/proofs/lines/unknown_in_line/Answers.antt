@@ -14,14 +14,14 @@ use Rattle.pg_check_bodies.proofs.LineRows.{rows_joined, unknown_types_row}
 use Rattle.pg_check_bodies.proofs.lines.unknown_in_line.Goals as goal
 
 pub returns : goal.returns
-returns c = λ g s e w u.
+returns c = λ g s w u.
     let op = op_of c.args.op.now in
     let types = unknown_types g.tree.types (line_types op) in
     let values = flat_map (unknown_row g) (line_uses g op) in
     let callee = unknown_callee g op in
     let threads = flat_map (unknown_value g) (thread_functions g op) in
     rows_joined types (values ++ (callee ++ threads)) c.unknown_types-ty.result c.earlier-2.result c.earlier-3.result
-    (unknown_types_row (named_types c.args.types.now) g.tree.types (tys_behind c.args.written.now) (line_types op) c.unknown_types-ty.result c.unknown_types-ty.ensures (sym e) w)
+    (unknown_types_row (named_types c.args.scope.now.values.types.now) g.tree.types (tys_behind c.args.written.now) (line_types op) c.unknown_types-ty.result c.unknown_types-ty.ensures (sym s.values.types) w)
     (rows_joined values (callee ++ threads) c.unknown_uses-value.result c.earlier.result c.earlier-2.result
     (c.unknown_uses-value.ensures g s ∙ ap (λ us. earliest (flat_map (unknown_row g) (flat_map with_inner us))) u)
     (rows_joined callee threads c.unknown_callee-callee.result c.unknown_thread-thread.result c.earlier.result (c.unknown_callee-callee.ensures g s)

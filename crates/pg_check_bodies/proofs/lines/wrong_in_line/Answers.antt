@@ -15,7 +15,7 @@ use Rattle.pg_check_bodies.proofs.lines.wrong_in_line.Goals as goal
 
 pub returns : goal.returns
 returns c = record {
-  place = λ g s e w u.
+  place = λ g s w u.
       let l = line_of c.args.line.now in
       let types = wrong_types g.tree.types (line_types l.op) in
       let demands = flat_map (unmet g.tree.types) (op_demands g.tree.types g.result l.op ++ call_demands g l.op) in
@@ -23,14 +23,14 @@ returns c = record {
       let call = wrong_call g l.op in
       let others = wrong_otherwise g l in
       rows_joined types (demands ++ (values ++ (call ++ others))) c.in_ok-ty.ty c.earlier-3.result c.earlier-4.result
-      (wrong_types_row (named_types c.args.types.now) g.tree.types (tys_behind c.args.written.now) (line_types l.op) c.in_ok-ty.ty c.in_ok-ty.ensures.place (sym e) w)
+      (wrong_types_row (named_types c.args.scope.now.values.types.now) g.tree.types (tys_behind c.args.written.now) (line_types l.op) c.in_ok-ty.ty c.in_ok-ty.ensures.place (sym s.values.types) w)
       (rows_joined demands (values ++ (call ++ others)) c.in_ok-unmet.unmet c.earlier-2.result c.earlier-3.result
-      (c.in_ok-unmet.ensures.place g s e)
+      (c.in_ok-unmet.ensures.place g s)
       (rows_joined values (call ++ others) c.in_ok-value.value c.earlier.result c.earlier-2.result
-      (c.in_ok-value.ensures.place g s e ∙ ap (λ us. earliest (flat_map (wrong_use g) (flat_map with_inner us))) u)
+      (c.in_ok-value.ensures.place g s ∙ ap (λ us. earliest (flat_map (wrong_use g) (flat_map with_inner us))) u)
       (rows_joined call others c.in_ok-call.call c.in_ok-other.other c.earlier.result
-      (c.in_ok-call.ensures.place g s e)
-      (c.in_ok-other.ensures.place g s e)
+      (c.in_ok-call.ensures.place g s)
+      (c.in_ok-other.ensures.place g s)
       c.earlier.ensures)
       c.earlier-2.ensures)
       c.earlier-3.ensures)

@@ -5,10 +5,10 @@ use Rattle.pg_check_calls.proofs.threads.wrong_thread.Goals as goal
 
 pub returns-in-Some : goal.returns-in-Some
 returns-in-Some c = record {
-  place = λ g s t. if_ok c.wrong_value.result (λ o h. thread_row (wrong_thread g) _ _ _ (c.in-Some.ensures g s) h) (c.wrong_value.ensures.place g s t);
+  place = λ g s. if_ok c.wrong_value.result (λ o h. thread_row (wrong_thread g) _ _ _ (c.in-Some.ensures g s) h) (c.wrong_value.ensures.place g s);
 }
 
 pub returns-in-None : goal.returns-in-None
 returns-in-None c = record {
-  place = λ g s t. thread_none (wrong_thread g) _ (c.in-None.ensures g s);
+  place = λ g s. thread_none (wrong_thread g) _ (c.in-None.ensures g s);
 }

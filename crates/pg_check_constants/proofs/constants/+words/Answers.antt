@@ -14,17 +14,14 @@ pointer_word-requires t c =
     let m = tree_of c.args.globals.now.symbols.tree.now in
     let g = c.in-GetElementPtr in (
       search (rules, the_lemmas),
-      (
-        c.requires.items,
-        subst (λ x. ValFits m.types (val_of x)) (sym c.deref.ensures) (gep_fits m.types c.args.value.now g.field-0 g.ty g.field-2 g.base g.indices g.is c.requires.fits).1,
-      ),
+      subst (λ x. ValFits m.types (val_of x)) (sym c.deref.ensures) (gep_fits m.types c.args.value.now g.field-0 g.ty g.field-2 g.base g.indices g.is c.requires.fits).1,
     )
 
 pub moved_word-requires : goal.moved_word-requires
 moved_word-requires t c =
     let m = tree_of c.args.globals.now.symbols.tree.now in
     let g = c.in-GetElementPtr in
-    subst (λ its. TypeFits (items_of its) (ty_of g.ty)) (sym (c.requires.items))
+    subst (λ its. TypeFits (items_of its) (ty_of g.ty)) (sym c.args.globals.now.items)
     (gep_fits m.types c.args.value.now g.field-0 g.ty g.field-2 g.base g.indices g.is c.requires.fits).0
 
 pub returns-in_ok-word-in-GetElementPtr : goal.returns-in_ok-word-in-GetElementPtr
@@ -35,7 +32,7 @@ returns-in_ok-word-in-GetElementPtr t c = record {
       if_ok c.moved_word.result
       (λ w h. h
       ∙ moved_word_is m _ c.in_ok-word-in-GetElementPtr.word g.field-0 g.ty g.field-2 g.base g.indices _
-      (ap (λ xs. items_of xs) (c.requires.items))
+      (ap (λ xs. items_of xs) c.args.globals.now.items)
       (c.in_ok-word-in-GetElementPtr.ensures.word ∙ ap (λ x. pointer_word m (val_of x)) c.deref.ensures)
       c.as_slice-in-GetElementPtr.ensures.value
       ∙ ap (λ x. pointer_word m (val_of x)) (sym g.is))

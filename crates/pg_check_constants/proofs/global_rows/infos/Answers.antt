@@ -12,11 +12,14 @@ use Rattle.pg_check_constants.specs.Sizes.{GlobalsFit}
 use Rattle.pg_check_constants.proofs.GlobalSizes.{one_fits, size_small, start_within}
 use Rattle.pg_check_constants.proofs.global_rows.infos.Goals as goal
 
-pub info_from-requires-clause-fits : goal.info_from-requires-clause-fits
-info_from-requires-clause-fits c =
+pub info_from-requires : goal.info_from-requires
+info_from-requires c =
     let m = tree_of c.args.globals.now.symbols.tree.now in
-    one_fits m.types c.args.variables.now c.loop-item.item-index c.item-item.result _
-    (subst (λ gs. GlobalsFit m.types (map global_of gs)) (sym c.requires.variables) c.requires.fits) c.loop-item-test.true c.item-item.is
+    record {
+      fits =
+          one_fits m.types c.args.variables.now c.loop-item.item-index c.item-item.result _
+          (subst (λ gs. GlobalsFit m.types (map global_of gs)) (sym c.requires.variables) c.requires.fits) c.loop-item-test.true c.item-item.is;
+    }
 
 pub granule_behind-start-requires-clause-start : goal.granule_behind-start-requires-clause-start
 granule_behind-start-requires-clause-start c =

@@ -28,13 +28,10 @@ add_const-add_elements-requires t c =
     let table = table_of c.args.known.now in (
       search (rules, the_lemmas),
       (
-        c.requires.items,
+        c.in-Some.ensures.within,
         (
-          c.in-Some.ensures.within,
-          (
-            element_there table (type_at table c.args.number) c.in-Some.element c.in-Some.ensures.within c.in-Some.ensures.element c.requires.ty,
-            elements_fit m.types c.args.value.now c.in-Array.field-0 c.in-Array.parts c.as_slice-in-Some.result.now c.in-Array.is c.as_slice-in-Some.ensures.value c.requires.fits,
-          ),
+          element_there table (type_at table c.args.number) c.in-Some.element c.in-Some.ensures.within c.in-Some.ensures.element c.requires.ty,
+          elements_fit m.types c.args.value.now c.in-Array.field-0 c.in-Array.parts c.as_slice-in-Some.result.now c.in-Array.is c.as_slice-in-Some.ensures.value c.requires.fits,
         ),
       ),
     )
@@ -44,13 +41,10 @@ add_const-add_fields-requires t c =
     let m = tree_of c.args.globals.now.symbols.tree.now in (
       search (rules, the_lemmas),
       (
-        c.requires.items,
+        c.requires.within,
         (
-          c.requires.within,
-          (
-            c.requires.ty,
-            fields_fit m.types c.args.value.now c.in-Struct.field-0 c.in-Struct.parts c.as_slice-in-Struct.result.now c.in-Struct.is c.as_slice-in-Struct.ensures.value c.requires.fits,
-          ),
+          c.requires.ty,
+          fields_fit m.types c.args.value.now c.in-Struct.field-0 c.in-Struct.parts c.as_slice-in-Struct.result.now c.in-Struct.is c.as_slice-in-Struct.ensures.value c.requires.fits,
         ),
       ),
     )
@@ -60,13 +54,10 @@ add_elements-add_part-requires t c =
     let m = tree_of c.args.globals.now.symbols.tree.now in (
       search (rules, the_lemmas),
       (
-        c.requires.items,
+        c.requires.within,
         (
-          c.requires.within,
-          (
-            c.requires.ty,
-            (parts_next m.types c.args.parts.now c.loop-part.part-index c.part-item.result _ c.loop-part-test.true c.part-item.is c.loop-part.invariant.fits).0,
-          ),
+          c.requires.ty,
+          (parts_next m.types c.args.parts.now c.loop-part.part-index c.part-item.result _ c.loop-part-test.true c.part-item.is c.loop-part.invariant.fits).0,
         ),
       ),
     )
@@ -96,13 +87,10 @@ add_fields-add_part-requires t c =
     let ts = field_list (type_at table c.args.number) in (
       search (rules, the_lemmas),
       (
-        c.requires.items,
+        c.in-Some.ensures.within,
         (
-          c.in-Some.ensures.within,
-          (
-            field_there (type_at table c.args.number) (type_at table c.in-Some.field) c.loop-place.place (drop (c.loop-place.place + 1) ts) c.requires.ty c.in-Some.ensures.field.rest,
-            (parts_next m.types c.args.parts.now c.loop-place.place c.index-parts-place.result _ c.loop-place-test.true c.index-parts-place.is c.loop-place.invariant.fits).0,
-          ),
+          field_there (type_at table c.args.number) (type_at table c.in-Some.field) c.loop-place.place (drop (c.loop-place.place + 1) ts) c.requires.ty c.in-Some.ensures.field.rest,
+          (parts_next m.types c.args.parts.now c.loop-place.place c.index-parts-place.result _ c.loop-place-test.true c.index-parts-place.is c.loop-place.invariant.fits).0,
         ),
       ),
     )

@@ -33,7 +33,7 @@ kinds m i v _ = refl
 pub returns : goal.returns
 unfolding global_refused unknown_types any_large
 returns c = record {
-  first = λ m s t e k.
+  first = λ m s e k.
       let item = global_of c.args.item.now in
       let span = c.args.item.now.name.span in
       let uses = const_uses (ty_of c.args.item.now.ty) (const_of c.args.item.now.value) in
@@ -51,11 +51,11 @@ returns c = record {
       (c.earlier_refusal.ensures named (joined functions large)
       (c.name_or_type_refusal-named.ensures (part UnknownName) (part Doubled) (part WrongType)
       (both _ _ _ _ _ c.earlier-unknown.ensures
-      (same_row unknown_type (named_types c.args.types.now) m.types (tys_behind c.as_slice-7.result.now) all c.unknown_types.result c.unknown_types.ensures (sym t) slice_unknown)
+      (same_row unknown_type (named_types c.args.scope.now.types.now) m.types (tys_behind c.as_slice-7.result.now) all c.unknown_types.result c.unknown_types.ensures (sym s.types) slice_unknown)
       (within_rows (λ (u : Use). unknown_value (outside m) u.value) (uses_behind c.as_slice-6.result.now) uses c.unknown_uses-unknown_use.result
       (c.unknown_uses-unknown_use.ensures (outside m) s) uses_unknown))
       (c.doubled.ensures (symbol_names m) k)
-      (c.in_ok-wrong.ensures.place m c.args.number s t))
+      (c.in_ok-wrong.ensures.place m c.args.number s))
       (c.earlier_refusal-other.ensures functions large
       (c.refusal_at.ensures (part Unsupported)
       (within_rows (λ (u : Use). function_value (outside m) u.value) (uses_behind c.as_slice-8.result.now) uses c.function_uses-unsupported.result
@@ -63,7 +63,7 @@ returns c = record {
       (c.refusal_at-2.ensures (part TooLarge)
       (c.place_if.ensures ∙ ap (λ b. earliest (at_if b span)) (c.one_of_three-over.ensures
       ∙ ap (λ b. b || c.is_past_limit.result || c.args.past_end)
-      (c.in_ok-large.ensures.large ∙ ap (λ types. list_any (is_large types) (tys_behind c.as_slice-5.result.now)) (sym t) ∙ ap (λ ts. list_any (is_large m.types) ts) slice_large)
+      (c.in_ok-large.ensures.large ∙ ap (λ types. list_any (is_large types) (tys_behind c.as_slice-5.result.now)) (sym s.types) ∙ ap (λ ts. list_any (is_large m.types) ts) slice_large)
       ∙ ap (λ b. list_any (is_large m.types) all || b || c.args.past_end) c.is_past_limit.ensures
       ∙ ap (λ b. list_any (is_large m.types) all || nat_le GLOBAL_LIMIT c.args.number || b) e)))));
 }

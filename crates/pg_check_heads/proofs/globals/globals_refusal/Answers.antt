@@ -12,6 +12,6 @@ returns c = record {
   first = λ k.
       let m = tree_of c.args.symbols.now.tree.now in
       subst (λ xs. IfOk c.refusal_over.result (λ o. IsFirstIn (all_of (global_refused m) (enumerate_from 0 (map global_of xs))) o)) c.as_slice.ensures.value
-      (c.refusal_over.ensures.first m (outside_scope _ m refl c.new-registers.ensures.empty refl) (ap (λ xs. items_of xs) (sym c.requires))
+      (c.refusal_over.ensures.first m (outside_scope _ m refl (ap (λ xs. items_of xs) (sym c.requires)) c.new-registers.ensures.empty refl)
       (ap (λ xs. map global_of xs) (sym c.as_slice.ensures.value)) k);
 }

@@ -15,9 +15,9 @@ use Rattle.pg_check_heads.proofs.globals.refusal_over.Given as goal
 
 abbrev pub invariant-loop-number : goal.invariant-loop-number
 invariant-loop-number l = record {
-  first : (m : Tree) → IsScope l.scope (outside m) → m.types ≡ named_types l.types → m.globals ≡ map global_of l.items →
+  first : (m : Tree) → IsScope l.scope (outside m) → m.globals ≡ map global_of l.items →
       ((text : List ℕ) → known_place l.starts text ≡ first_start (symbol_names m) text) →
       IsFirstIn (all_of (global_refused m) (enumerate_from 0 (map global_of (take l.number l.items)))) l.found;
-  end : l.end ≡ ended (globals_end (named_types l.types) (take l.number (map global_of l.items)));
+  end : l.end ≡ ended (globals_end (named_types l.scope.types.now) (take l.number (map global_of l.items)));
   small : l.end ≤ GLOBALS_END + 1;
 }

@@ -17,16 +17,16 @@ use Rattle.pg_check_heads.proofs.globals.wrong_places.Goals as goal
 pub returns : goal.returns
 unfolding global_refused wrong_types
 returns c = record {
-  place = λ m n s t.
+  place = λ m n s.
       let item = c.args.item.now in
       let ty = ty_of item.ty in
       let value = const_of item.value in
       both _ _ _ _ _ c.earlier-3.ensures
-      (same_row wrong_type (named_types c.args.types.now) m.types (tys_behind c.args.within.now)
-      (flat_map types_within (global_types (global_of item))) c.in_ok-written.written c.in_ok-written.ensures.place (sym t) c.requires.within)
+      (same_row wrong_type (named_types c.args.scope.now.types.now) m.types (tys_behind c.args.within.now)
+      (flat_map types_within (global_types (global_of item))) c.in_ok-written.written c.in_ok-written.ensures.place (sym s.types) c.requires.within)
       (both _ _ _ _ _ c.earlier-2.ensures
-      (c.in_ok-own.ensures.place ∙ ap (λ types. earliest (unmet types (asks isnt_void ty))) (sym t))
+      (c.in_ok-own.ensures.place ∙ ap (λ types. earliest (unmet types (asks isnt_void ty))) (sym s.types))
       (both _ _ _ _ _ c.earlier.ensures
-      (c.in_ok-constant.ensures.place ∙ ap (λ types. earliest (wrong_const types (resolved types ty) value)) (sym t))
-      (within_rows (wrong_use (outside m)) (uses_behind c.args.uses.now) (const_uses ty value) c.in_ok-values.values (c.in_ok-values.ensures.place (outside m) s t) c.requires.uses)));
+      (c.in_ok-constant.ensures.place ∙ ap (λ types. earliest (wrong_const types (resolved types ty) value)) (sym s.types))
+      (within_rows (wrong_use (outside m)) (uses_behind c.args.uses.now) (const_uses ty value) c.in_ok-values.values (c.in_ok-values.ensures.place (outside m) s) c.requires.uses)));
 }

@@ -17,14 +17,14 @@ row types t cases = flat_map (repeated_case (resolved types t) (map case_of case
 pub returns-in-Switch : goal.returns-in-Switch
 unfolding row
 returns-in-Switch c = record {
-  place = λ g e.
-      let types = named_types c.args.types.now in
+  place = λ g s.
+      let types = named_types c.args.scope.now.values.types.now in
       let t = (typed_of c.in-Switch.value).ty in
       if_ok c.repeated_cases.result
       (λ o h. h
       ∙ ap (λ u. earliest (row types u c.as_slice.result.now)) c.value_type.ensures
       ∙ ap (λ cases. earliest (row types t cases)) c.as_slice.ensures.value
-      ∙ ap (λ items. earliest (row items t c.in-Switch.cases.items)) (sym e)
+      ∙ ap (λ items. earliest (row items t c.in-Switch.cases.items)) (sym s.values.types)
       ∙ ap (λ x. earliest (equal_cases g (op_of x))) (sym c.in-Switch.is))
       c.repeated_cases.ensures.place;
 }

@@ -14,14 +14,14 @@ op_instr-requires-clause-fits c =
     one_fits (LineFits (types_in c.args.scope.now)) line_of c.args.lines.now c.loop-line.line-index c.line-item.result _ c.requires.fits c.loop-line-test.true c.line-item.is
 
 pub op_instr-requires-clause-given : goal.op_instr-requires-clause-given
-op_instr-requires-clause-given c = c.in_ok-has_result.ensures.same ∙ ap (λ xs. gives (map type_item_of xs) (op_of c.line-item.result.op)) c.args.scope.now.items
+op_instr-requires-clause-given c = c.in_ok-has_result.ensures.same ∙ ap (λ xs. gives (map type_item_of xs) (op_of c.line-item.result.op)) c.args.scope.now.globals.now.items
 
 pub loop-line-preserved : goal.loop-line-preserved
 loop-line-preserved c =
     let first = c.args.scope.now.first in
     let names = drop c.loop-line.at c.args.names.now in
     let behind = drop c.place_after-at.result c.args.names.now in
-    let same = c.in_ok-has_result.ensures.same ∙ ap (λ xs. gives (map type_item_of xs) (op_of c.line-item.result.op)) c.args.scope.now.items in
+    let same = c.in_ok-has_result.ensures.same ∙ ap (λ xs. gives (map type_item_of xs) (op_of c.line-item.result.op)) c.args.scope.now.globals.now.items in
     let after = c.place_after-at.ensures ∙ ap (λ b. names_after b names) same in
     record {
       instrs = λ own.

@@ -10,7 +10,7 @@ use Rattle.pg_check_program.proofs.program.functions_of.Goals as goal
 
 pub function_at-requires-clause-params : goal.function_at-requires-clause-params
 function_at-requires-clause-params c =
-    (one_fits (FunctionFits (tree_of c.args.tree.now).types) define_of c.args.all.now c.loop-item.item-index c.item-item.result _ c.requires.fits.each c.loop-item-test.true c.item-item.is).params
+    (one_fits (FunctionFits (tree_of c.args.globals.now.symbols.tree.now).types) define_of c.args.all.now c.loop-item.item-index c.item-item.result _ c.requires.fits.each c.loop-item-test.true c.item-item.is).params
 
 pub function_at-requires-clause-blocks : goal.function_at-requires-clause-blocks
 function_at-requires-clause-blocks c =
@@ -24,7 +24,7 @@ block_behind-first-requires c =
 
 pub loop-item-preserved : goal.loop-item-preserved
 loop-item-preserved c =
-    let m = tree_of c.args.tree.now in
+    let m = tree_of c.args.globals.now.symbols.tree.now in
     let all = c.args.all.now in
     record {
       functions =
@@ -38,6 +38,6 @@ loop-item-preserved c =
 pub returns : goal.returns
 returns c = record {
   functions =
-      rows_all (function_row (tree_of c.args.tree.now) (map define_of c.args.all.now)) c.args.all.now c.loop-item.item-index c.loop-item.found.items c.loop-item-test.false
+      rows_all (function_row (tree_of c.args.globals.now.symbols.tree.now) (map define_of c.args.all.now)) c.args.all.now c.loop-item.item-index c.loop-item.found.items c.loop-item-test.false
       c.loop-item.invariant.functions;
 }

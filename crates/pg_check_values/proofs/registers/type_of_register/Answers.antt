@@ -8,5 +8,5 @@ use Rattle.pg_check_values.proofs.registers.type_of_register.Goals as goal
 pub returns : goal.returns
 returns c = λ g s.
     ap (λ o. option_map (register_type g.tree.types) o) c.type_at.ensures
-    ∙ type_found (register_type g.tree.types) c.args.scope.now.types.now g.registers c.args.name.now.text _
-    (c.place_of_name-place.ensures ∙ ap (λ t. known_place c.args.scope.now.registers.now t) c.as_slice.ensures ∙ s.known c.args.name.now.text) s.types
+    ∙ type_found (register_type g.tree.types) c.args.scope.now.register_types.now g.registers c.args.name.now.text _
+    (c.place_of_name-place.ensures ∙ ap (λ t. known_place c.args.scope.now.registers.now t) c.as_slice.ensures ∙ s.known c.args.name.now.text) s.registers
