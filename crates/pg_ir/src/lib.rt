@@ -1,4 +1,5 @@
 //! The numbered program: functions, blocks, instructions and globals by number, with what holds of each.
+// How goals are searched for: see docs/CONTRIBUTING.md.
 #![tactic(auto)]
 
 mod build;

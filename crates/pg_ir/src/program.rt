@@ -323,6 +323,7 @@ impl Program {
     pub fn facts(&self)
         ensures holds { IsProgram self.now }
     {
+        // Read for the proof: see docs/CONTRIBUTING.md.
         let _functions = &self.functions;
     }
 }

@@ -1,5 +1,6 @@
 //! The course of a thread: what each of its steps of the full guided run along a schedule is, by its own local state. Each law is
 //! the clause of a function that does nothing.
+// How goals are searched for: see docs/CONTRIBUTING.md.
 #![tactic(auto)]
 
 pub mod examples;

@@ -1,4 +1,5 @@
 //! Laws on what the steps of the machine do, and on its runs: nothing here runs.
+// How goals are searched for: see docs/CONTRIBUTING.md.
 #![tactic(auto)]
 
 pub mod gates;

@@ -1,5 +1,6 @@
 //! The order of a trace's steps: laws on conflicts and on ordered traces, each the clause of a function
 //! that does nothing.
+// How goals are searched for: see docs/CONTRIBUTING.md.
 #![tactic(auto)]
 
 pub mod examples;

@@ -9,6 +9,7 @@ use pg_ir::Program;
 fn bytes_are_small(bytes: &[u8])
     ensures { (i : ℕ) → slice_index bytes.now i < 2 ^ 8 }
 {
+    // Called for the proof: see docs/CONTRIBUTING.md.
     let _length = bytes.len();
 }
 
@@ -28,6 +29,7 @@ fn globals_hold_bytes(p: &Program)
 fn input_is_short(input: &[i64])
     ensures { length input.now < 2 ^ 64 }
 {
+    // Called for the proof: see docs/CONTRIBUTING.md.
     let _length = input.len();
 }
 

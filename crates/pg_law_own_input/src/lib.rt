@@ -1,4 +1,5 @@
 //! A precondition admits the input that its run was recorded on: each law is the clause of a function that does nothing.
+// How goals are searched for: see docs/CONTRIBUTING.md.
 #![tactic(auto)]
 
 pub mod examples;

@@ -1,4 +1,5 @@
 //! That an entry's turns serve every input that it admits: nothing here runs.
+// How goals are searched for: see docs/CONTRIBUTING.md.
 #![tactic(auto)]
 
 pub mod laws;

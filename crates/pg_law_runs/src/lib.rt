@@ -1,5 +1,6 @@
 //! Runs of the machine as runs of threads that share cells and objects: each law is the clause of a function that does
 //! nothing.
+// How goals are searched for: see docs/CONTRIBUTING.md.
 #![tactic(auto)]
 
 ghost use Rattle.std.specs.Prelude.{◌≡◌, ◌++◌, ◌∷◌, [], ℕ, ℤ, List};

@@ -1,5 +1,6 @@
 //! Laws of steps, events and the order between them, over any machine of threads: each law is the clause
 //! of a function that does nothing. The lemmas stand over any type of steps.
+// How goals are searched for: see docs/CONTRIBUTING.md.
 #![tactic(auto)]
 
 ghost use Rattle.std.specs.Prelude.{◌≡◌, ◌↔◌, ℕ, ◌<◌, ◌≤◌, List, length, true, Some, slice_get};

@@ -1,5 +1,6 @@
 //! Numbers that are computed of an input, what they must be, and whether an input meets that: the conditions under which an
 //! order of events may be used again (a path condition, with only those nodes that its checks need).
+// How goals are searched for: see docs/CONTRIBUTING.md.
 #![tactic(auto)]
 
 mod check;

@@ -48,6 +48,7 @@ fn with_marks(
     ensures { IfOk result (λ r. r ≡ record { nodes = kept (slice_index places.now) marks.now c.now.nodes; checks = map (renamed_check (slice_index places.now)) c.now.checks }) }
 {
     let nodes = kept(alloc, c.nodes(), marks, places)?;
+    // In two lines for the proof: see docs/CONTRIBUTING.md.
     let r = with_checks(alloc, nodes, places, c.checks())?;
     Ok(r)
 }
@@ -63,6 +64,7 @@ pub fn needed(alloc: Global, c: &Precondition) -> Result<Precondition, AllocErro
     let marks = marks_of(alloc, c)?;
     let count = c.nodes().len();
     let places = places_of(alloc, marks.as_slice(), count)?;
+    // In two lines for the proof: see docs/CONTRIBUTING.md.
     let r = with_marks(alloc, c, marks.as_slice(), places.as_slice())?;
     Ok(r)
 }

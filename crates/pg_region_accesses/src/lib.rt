@@ -1,5 +1,6 @@
 //! What quiet basic blocks access: each load and store with the root path of its pointer, those of a call in the place of
 //! the call.
+// How goals are searched for: see docs/CONTRIBUTING.md.
 #![tactic(auto)]
 
 mod access;

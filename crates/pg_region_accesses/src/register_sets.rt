@@ -32,6 +32,7 @@ pub fn add_sets(set: &mut Vec<bool>, p: &Program, b: BlockNo)
 {
     p.facts();
     let block = *p.block(b);
+    // Called for the proof: see docs/CONTRIBUTING.md.
     let _function = p.function(block.function);
     for k in 0..block.count {
         let instr = p.instr(InstrId(block.first.0 + k));

@@ -1,4 +1,5 @@
 //! Root paths: pointers by the roots from which they are loaded.
+// How goals are searched for: see docs/CONTRIBUTING.md.
 #![tactic(auto)]
 
 mod entry;

@@ -1,4 +1,5 @@
 //! Runs: the machine of a program's threads, its step, the rotation run and guided runs.
+// How goals are searched for: see docs/CONTRIBUTING.md.
 #![tactic(auto)]
 
 mod advance;

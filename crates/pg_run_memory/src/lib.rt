@@ -1,4 +1,5 @@
 //! The memory of a run: bytes, read and written as little-endian numbers of 1, 2, 4 or 8 bytes.
+// How goals are searched for: see docs/CONTRIBUTING.md.
 #![tactic(auto)]
 
 mod delta;

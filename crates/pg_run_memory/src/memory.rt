@@ -95,6 +95,7 @@ impl Memory {
     pub fn facts(&self)
         ensures { IsMemory self.now }
     {
+        // Read for the proof: see docs/CONTRIBUTING.md.
         let _globals = &self.globals;
     }
 

@@ -1,4 +1,5 @@
 //! The synchronisation objects of POSIX threads: mutexes, condition variables, barriers, and threads.
+// How goals are searched for: see docs/CONTRIBUTING.md.
 #![tactic(auto)]
 
 mod apply;

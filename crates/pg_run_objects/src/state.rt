@@ -89,6 +89,7 @@ impl SyncState {
         ensures threads { length self.now.threads ≤ THREAD_LIMIT }
     {
         self.objects.facts();
+        // Read for the proof: see docs/CONTRIBUTING.md.
         let _threads = &self.threads;
     }
 

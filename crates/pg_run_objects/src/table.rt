@@ -96,6 +96,7 @@ impl ObjectTable {
         ensures ascending { IsAscendingFrom 0 self.now }
         ensures few { length self.now ≤ OBJECT_LIMIT }
     {
+        // Read for the proof: see docs/CONTRIBUTING.md.
         let _entries = &self.entries;
     }
 

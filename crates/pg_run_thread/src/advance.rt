@@ -1,4 +1,6 @@
-//! Steps that only the thread's own state decides.
+//! Steps that only the thread's own state decides: what they ask and what they leave at once.
+//!
+//! This is one of three matches over `Op`, beside those of `decide` and `steps`: docs/CONTRIBUTING.md says why there are three.
 
 ghost use Rattle.std.specs.Prelude.{◌≡◌, ℕ, true, false, length};
 ghost use Rattle.pg_ir.specs.Operands.{CanReadAll};

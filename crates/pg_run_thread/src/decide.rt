@@ -1,4 +1,6 @@
-//! The action of each operation.
+//! The action of each operation: what the next step asks.
+//!
+//! This is one of three matches over `Op`, beside those of `steps` and `advance`: docs/CONTRIBUTING.md says why there are three.
 
 ghost use Rattle.std.specs.Prelude.{◌≡◌, ◌<◌, ◌≤◌, ◌^◌, length, true, false, if◌then◌else◌};
 ghost use Rattle.std.specs.List.{AllByRecursion};

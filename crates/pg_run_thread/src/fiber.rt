@@ -146,6 +146,7 @@ impl Fiber {
         requires { 0 < length self.now.frames }
         ensures { result.now ≡ top_registers self.now.frames }
     {
+        // Read for the proof: see docs/CONTRIBUTING.md.
         let _ended = self.ended;
         &self.registers[self.base as usize..]
     }
@@ -156,6 +157,7 @@ impl Fiber {
         requires { 0 < length self.now.frames }
         ensures { result ≡ top_function self.now.frames }
     {
+        // Read for the proof: see docs/CONTRIBUTING.md.
         let _ended = self.ended;
         self.top.function
     }
@@ -167,6 +169,7 @@ impl Fiber {
         ensures depth { result ≡ length self.now.frames }
         ensures few { result ≤ CALL_DEPTH_LIMIT }
     {
+        // Read for the proof: see docs/CONTRIBUTING.md.
         let _ended = self.ended;
         self.heads.len() as u32 + 1
     }
@@ -178,6 +181,7 @@ impl Fiber {
         ensures count { result ≡ total self.now.frames }
         ensures few { result ≤ THREAD_REGISTER_LIMIT }
     {
+        // Read for the proof: see docs/CONTRIBUTING.md.
         let _ended = self.ended;
         self.registers.len() as u32
     }
@@ -188,6 +192,7 @@ impl Fiber {
         requires { 0 < length self.now.frames }
         ensures { result ≡ own_memory self.now }
     {
+        // Read for the proof: see docs/CONTRIBUTING.md.
         let _ended = self.ended;
         ThreadMemory {
             thread: self.thread.0,
@@ -229,6 +234,7 @@ impl Fiber {
         requires target { IfSome target (λ r. r < length (top_registers self.old.frames)) }
         ensures { self.new ≡ record self.old { halfway = false; frames = on_top (λ f. stepped f target n) self.old.frames } }
     {
+        // Read for the proof: see docs/CONTRIBUTING.md.
         let _ended = self.ended;
         set_register(&mut self.registers[self.base as usize..], target, Some(n));
         self.top.place += 1;
@@ -244,6 +250,7 @@ impl Fiber {
         requires room { top_height self.old.frames + granules ≤ THREAD_GRANULES }
         ensures { self.new ≡ record self.old { halfway = false; frames = on_top (λ f. taken (stepped f target n) granules) self.old.frames } }
     {
+        // Read for the proof: see docs/CONTRIBUTING.md.
         let _ended = self.ended;
         set_register(&mut self.registers[self.base as usize..], target, Some(n));
         self.top.place += 1;
@@ -277,6 +284,7 @@ impl Fiber {
         ensures goes { result ≡ true → self.new ≡ record self.old { halfway = false; frames = on_top (λ f. moved p.now f from.0 edge.to.0) self.old.frames } }
         ensures stays { result ≡ false → self.new ≡ self.old }
     {
+        // Read for the proof: see docs/CONTRIBUTING.md.
         let _ended = self.ended;
         let registers = &mut self.registers[self.base as usize..];
         let given = take_edge(p, registers, &mut self.room, from, edge);
@@ -303,6 +311,7 @@ impl Fiber {
         requires room { parameters ≤ length (top_registers self.old.frames) }
         ensures { self.new ≡ record self.old { begun = true; frames = on_top (λ f. record f { registers = begun_registers parameters f.registers argument }) self.old.frames } }
     {
+        // Read for the proof: see docs/CONTRIBUTING.md.
         let _ended = self.ended;
         self.begun = true;
         if parameters != 0 {
@@ -324,6 +333,7 @@ impl Fiber {
           frames = entered p.now g (top_height_of self.old.frames) (map (operand p.now (top_registers self.old.frames)) args.now) ∷ self.old.frames;
         } }
     {
+        // Read for the proof: see docs/CONTRIBUTING.md.
         let _ended = self.ended;
         let used = self.registers.len() as u32;
         let count = register_count(p, g);
@@ -348,6 +358,7 @@ impl Fiber {
         requires { 2 ≤ length self.old.frames }
         ensures { self.new ≡ record self.old { frames = under_top self.old.frames } }
     {
+        // Read for the proof: see docs/CONTRIBUTING.md.
         let _ended = self.ended;
         let Some(head) = self.heads.pop() else {
             return;

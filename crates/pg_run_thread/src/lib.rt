@@ -1,4 +1,5 @@
 //! One thread by itself: what its next step is, and the state after it.
+// How goals are searched for: see docs/CONTRIBUTING.md.
 #![tactic(auto)]
 
 mod action;

@@ -1,4 +1,6 @@
 //! What a step leaves of a thread.
+//!
+//! This is one of three matches over `Op`, beside those of `decide` and `advance`: docs/CONTRIBUTING.md says why there are three.
 
 ghost use Rattle.std.specs.Prelude.{◌≡◌, ◌<◌, ◌≤◌, ◌+◌, ◌∷◌, [], length, map, IfOk, IfSome, Some, true, false};
 ghost use Rattle.std.specs.List.{AllByRecursion};

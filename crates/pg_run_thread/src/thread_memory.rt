@@ -49,6 +49,7 @@ pub(crate) fn pushed(memory: ThreadMemory, bytes: u128) -> u64
     requires room { IsTrue (has_room memory (granules_for bytes)) }
     ensures { result ≡ pushed memory bytes }
 {
+    // Called for the proof: see docs/CONTRIBUTING.md.
     let _granules = granules_for(bytes);
     pack(Pointer {
         start: GLOBALS_END + memory.thread as u32 * THREAD_GRANULES + memory.stack,

@@ -1,4 +1,5 @@
 //! Steps, turns and schedules, as plain data.
+// How goals are searched for: see docs/CONTRIBUTING.md.
 #![tactic(auto)]
 
 mod best;

@@ -1,5 +1,6 @@
 //! The schedule of a recorded run: the interval of each step among the turns of its thread, the loads and stores that race, and
 //! the order of all events and racing accesses.
+// How goals are searched for: see docs/CONTRIBUTING.md.
 #![tactic(auto)]
 
 mod answered;

@@ -30,14 +30,17 @@ fn are_together(trace: &Trace, intervals: &[Interval], number: usize, other: usi
     requires other { other < length trace.now.steps }
     ensures { result ≡ true → AreTogether trace.now.steps number other }
 {
+    let interval = interval_at(intervals, number);
+    let other_interval = interval_at(intervals, other);
+    if !overlap(interval, other_interval) {
+        return false;
+    }
     let step = trace.step(number);
     let other_step = trace.step(other);
     if step.thread.0 == other_step.thread.0 {
         return false;
     }
-    let interval = interval_at(intervals, number);
-    let other_interval = interval_at(intervals, other);
-    overlap(interval, other_interval)
+    true
 }
 
 /// Whether a step disturbs a freeable one.
@@ -56,7 +59,7 @@ fn disturbs(run: &GivenRun, number: usize, other: usize) -> bool
 }
 
 /// Whether a step is a load or a store that is no event.
-fn is_plain(step: &Step) -> bool
+pub(crate) fn is_plain(step: &Step) -> bool
     ensures { result ≡ rules.is_plain step.now.kind }
 {
     match &step.kind {

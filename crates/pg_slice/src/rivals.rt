@@ -31,11 +31,13 @@ struct Site {
     instr: InstrId,
 }
 
-/// Where a branch's region was noted last: behind how many turns, and the first pointer of its accesses.
+/// Where a branch's region was noted last: behind how many turns, and the first pointer of its accesses; and where nothing
+/// was found that disturbs it, of how many accessors and stretches.
 #[derive(Clone, Copy, Debug, PartialEq, Eq)]
 struct Noted {
     turn: usize,
     word: u64,
+    among: Option<usize>,
 }
 
 /// The last step so far of each accessor, and of each stretch; where the regions of branches were noted last; and whether
@@ -121,20 +123,45 @@ impl Rivals {
         Ok(())
     }
 
-    /// Whether a branch's region was noted already behind so many turns, with this first pointer. It is then.
+    /// How many accessors and stretches there are.
+    fn count(&self) -> usize {
+        self.last.len().saturating_add(self.stretches.len())
+    }
+
+    /// Whether a branch's region was noted already behind so many turns, with this first pointer. It is then, and if nothing
+    /// was found that disturbs it, this is noted too.
     pub(crate) fn is_noted(
         &mut self,
         thread: ThreadNo,
         instr: InstrId,
         turn: usize,
         word: u64,
+        disturbed: bool,
     ) -> Result<bool, AllocError> {
+        let among = if disturbed { None } else { Some(self.count()) };
         let before = self
             .regions
-            .insert(Site { thread, instr }, Noted { turn, word })?;
+            .insert(Site { thread, instr }, Noted { turn, word, among })?;
         match before {
             Some(noted) => Ok(noted.turn == turn && noted.word == word),
             None => Ok(false),
+        }
+    }
+
+    /// Whether nothing was found that disturbs a branch's region, noted behind so many turns with this first pointer, and no
+    /// accessor and no stretch was noted since.
+    pub(crate) fn is_known_apart(
+        &self,
+        thread: ThreadNo,
+        instr: InstrId,
+        turn: usize,
+        word: u64,
+    ) -> bool {
+        match self.regions.get(&Site { thread, instr }) {
+            Some(noted) => {
+                noted.turn == turn && noted.word == word && noted.among == Some(self.count())
+            }
+            None => false,
         }
     }
 

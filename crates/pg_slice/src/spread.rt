@@ -13,7 +13,7 @@ ghost use Rattle.pg_slice_walk.specs.pg_slice_replay.Kept.{step_count};
 ghost use Rattle.pg_slice.specs.Settled.{AreLive, IsAsked, IsOwed, Widens};
 ghost use Rattle.pg_slice_walk.specs.Settled.{ArePinned, AreSettled};
 
-use crate::meetings::{disturbing, sharing};
+use crate::meetings::{disturbing, is_plain, sharing};
 use crate::rivals::Rivals;
 use pg_run_trace::{Step, StepKind};
 use pg_schedule::Interval;
@@ -45,6 +45,33 @@ fn is_branch(step: &Step) -> bool
     }
 }
 
+/// Behind how many turns a step's thread did its last one; 0 where nothing is told of the step.
+fn turn_before(intervals: &[Interval], number: usize) -> usize {
+    match intervals.get(number) {
+        Some(interval) => interval.low,
+        None => 0,
+    }
+}
+
+/// The first pointer of the accesses of a freeable step's region; 0 where there is none.
+fn first_pointer(reference: &ReferenceRun, number: usize) -> u64 {
+    match reference.access(number, 0) {
+        Some(access) => access.last,
+        None => 0,
+    }
+}
+
+/// Whether the region of a freeable step was noted between the same turns, and is known to be disturbed by none of those that are
+/// noted: then it isn't sought again.
+fn is_known_apart(rivals: &Rivals, run: &GivenRun, step: &Step, number: usize) -> bool {
+    rivals.is_known_apart(
+        step.thread,
+        step.instr,
+        turn_before(run.intervals, number),
+        first_pointer(run.r, number),
+    )
+}
+
 /// Whether the first rule or the fourth asks that a live step is pinned.
 fn asks_pin(
     s: &Spread,
@@ -65,6 +92,9 @@ fn asks_pin(
     }
     if !run.r.is_free(number) {
         return true;
+    }
+    if is_known_apart(&s.rivals, run, &step, number) {
+        return false;
     }
     match disturbing(&s.rivals, run, s.live.as_slice(), number) {
         Some(rival) => rival < run.t.len(),
@@ -101,6 +131,9 @@ fn asks_exact(
 {
     let step = run.t.step(number);
     if decisions.is_exact(number) {
+        return false;
+    }
+    if !is_plain(&step) {
         return false;
     }
     match sharing(
@@ -147,22 +180,6 @@ fn note_one(
     Ok(())
 }
 
-/// Behind how many turns a step's thread did its last one; 0 where nothing is told of the step.
-fn turn_before(intervals: &[Interval], number: usize) -> usize {
-    match intervals.get(number) {
-        Some(interval) => interval.low,
-        None => 0,
-    }
-}
-
-/// The first pointer of the accesses of a freeable step's region; 0 where there is none.
-fn first_pointer(reference: &ReferenceRun, number: usize) -> u64 {
-    match reference.access(number, 0) {
-        Some(access) => access.last,
-        None => 0,
-    }
-}
-
 /// Notes the bounds of a freeable step's region, where those of its branch weren't noted between the same turns.
 fn note_region(
     rivals: &mut Rivals,
@@ -170,9 +187,14 @@ fn note_region(
     step: &Step,
     turn: usize,
     number: usize,
+    pinned: bool,
 ) -> Result<(), AllocError> {
     let count = run.r.access_count(number);
-    if count == 0 || rivals.is_noted(step.thread, step.instr, turn, first_pointer(run.r, number))? {
+    if count == 0 {
+        return Ok(());
+    }
+    let first = first_pointer(run.r, number);
+    if rivals.is_noted(step.thread, step.instr, turn, first, pinned)? {
         return Ok(());
     }
     for k in 0..count {
@@ -181,13 +203,19 @@ fn note_region(
     Ok(())
 }
 
-/// Notes the bounds of a live step.
-fn note(rivals: &mut Rivals, run: &GivenRun, step: &Step, number: usize) -> Result<(), AllocError> {
+/// Notes the bounds of a live step, which is pinned or not.
+fn note(
+    rivals: &mut Rivals,
+    run: &GivenRun,
+    step: &Step,
+    number: usize,
+    pinned: bool,
+) -> Result<(), AllocError> {
     let turn = turn_before(run.intervals, number);
     if let Some(access) = step.access() {
         rivals.note(access.pointer, step.thread, access.writes, turn, number)?;
     }
-    note_region(rivals, run, step, turn, number)
+    note_region(rivals, run, step, turn, number, pinned)
 }
 
 /// A step is live.
@@ -263,7 +291,8 @@ fn spread_step(
     take_asked(s, run, holders, decisions, number);
     mark_settled(s, decisions, number);
     s.rivals.tell(is_taken(decisions, number) != was);
-    note(&mut s.rivals, run, &run.t.step(number), number)?;
+    let pinned = decisions.is_pinned(number);
+    note(&mut s.rivals, run, &run.t.step(number), number, pinned)?;
     Ok(())
 }
 

@@ -1,8 +1,8 @@
 -- What the accesses of a region may write.
 use Rattle.std.proofs.Common.{◌≡◌, ◌<◌, ◌≤◌, ◌+◌, ◌⊎◌, inl, inr, ℕ, zero, suc, Bool, true, false, List, [], ◌∷◌, length, Option, Some, None, refl, sym, ap}
 use Rattle.std.proofs.Common.{◌∙◌, subst, arith}
-use Rattle.std.specs.Prelude.{◌&&◌, ◌||◌, slice_get, option_map, IfSome}
-use Rattle.std.proofs.lemmas.Bool.{cases_lt}
+use Rattle.std.specs.Prelude.{◌&&◌, ◌||◌, if◌then◌else◌, is_some, nat_lt, slice_get, option_map, IfNone, IfSome}
+use Rattle.std.proofs.lemmas.Bool.{cases_lt, le-ltb}
 use Rattle.pg_slice_rules.specs.Freeable.{FreeAccess, FreeRegion, bounds_of}
 use Rattle.pg_slice_rules.specs.SymbolicValues.{is_within}
 use Rattle.pg_law_least.specs.Keeps.{may_write}
@@ -136,6 +136,31 @@ silent (Some l) w result h = go l.region h
         → IfSome o (λ (q : FreeRegion). result ≡ false → AsksByte (may_write q.accesses) w → ⊥)
     go None h = tt
     go (Some q) h = λ e. h
+
+-- where no byte is asked, none is that a region may write
+pub none_asked : (o : Option Landmark) (w : Demanded) → ((b : ℕ) → asks_byte w b ≡ true → ⊥)
+    → IfSome o (λ (l : Landmark). IfSome l.region (λ (q : FreeRegion). AsksByte (may_write q.accesses) w → ⊥))
+none_asked None w h = tt
+none_asked (Some l) w h = go l.region
+  where
+    go : (o : Option FreeRegion) → IfSome o (λ (q : FreeRegion). AsksByte (may_write q.accesses) w → ⊥)
+    go None = tt
+    go (Some q) = λ a. h a.0 a.2
+
+otherwise : (t c : Bool) → t ≡ false → (if t then c else false) ≡ false
+otherwise true c e = absurd cc
+otherwise false c e = refl
+
+-- bytes that have no place aren't asked
+pub none_found : (w : Demanded) (o : Option ℕ) → is_some o ≡ false → IfNone o ((b : ℕ) → 0 ≤ b → b < 18446744073709551615 → asks_byte w b ≡ false) → (b : ℕ) → asks_byte w b ≡ true → ⊥
+none_found w (Some x) e h b q = absurd cc
+none_found w None e h b q = by (cases_lt b 67108864)
+  where
+    by : (b < 67108864) ⊎ (67108864 ≤ b) → ⊥
+    by (inl lt) = let z : false ≡ true = sym (h b (omega arith) (omega (arith, lt))) ∙ q in absurd cc
+    by (inr le) =
+        let z : asks_byte w b ≡ false = otherwise (nat_lt b 67108864) _ (le-ltb b 67108864 le) in
+        let y : false ≡ true = sym z ∙ q in absurd cc
 
 -- ---- registers
 

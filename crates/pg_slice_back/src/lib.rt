@@ -1,4 +1,5 @@
 //! Back over one live step of a run: what has to be known behind it makes what has to be known before it.
+// How goals are searched for: see docs/CONTRIBUTING.md.
 #![tactic(auto)]
 
 mod access;

@@ -1,11 +1,12 @@
 //! Whether something has to be known that the region of a freeable step may set.
 
-ghost use Rattle.std.specs.Prelude.{◌≡◌, ◌<◌, ◌&&◌, nat_lt, true, false, Some, None, IfSome, slice_get};
+ghost use Rattle.std.specs.Prelude.{◌≡◌, ◌<◌, ◌&&◌, ℕ, nat_lt, true, false, Some, None, IfSome, slice_get};
 ghost use Rattle.pg_region_accesses.specs.Tables.{in_table};
 ghost use Rattle.pg_slice_rules.specs.Freeable.{bounds_of};
 ghost use Rattle.pg_slice_rules.specs.SymbolicValues.{is_within};
 ghost use Rattle.pg_law_least.specs.Keeps.{may_write};
 ghost use Rattle.pg_slice_passes.specs.pg_slice_replay.Kept.{landmark_at};
+ghost use Rattle.pg_slice_demands.specs.Asked.{asks_byte};
 ghost use Rattle.pg_slice_back.specs.Sets.{AsksByte, AsksOfAccess, AsksRegion, AsksRegister};
 
 use crate::bytes::bytes_in_bounds;
@@ -66,11 +67,22 @@ fn asks_one(demanded: &Demanded, reference: &ReferenceRun, number: usize, k: usi
     }
 }
 
+/// Whether a byte has to be known.
+fn asks_bytes(demanded: &Demanded) -> bool
+    ensures { result ≡ false → (b : ℕ) → asks_byte demanded.now b ≡ true → ⊥ }
+{
+    let found = demanded.byte_in(0, u64::MAX);
+    found.is_some()
+}
+
 /// Whether a byte has to be known that a freeable step's region may write.
 fn asks_any(demanded: &Demanded, reference: &ReferenceRun, number: usize) -> bool
     ensures some { IfSome (landmark_at reference.now number) (λ l. IfSome l.region (λ q. result ≡ true → AsksByte (may_write q.accesses) demanded.now)) }
     ensures none { IfSome (landmark_at reference.now number) (λ l. IfSome l.region (λ q. result ≡ false → AsksByte (may_write q.accesses) demanded.now → ⊥)) }
 {
+    if !asks_bytes(demanded) {
+        return false;
+    }
     for k in 0..reference.access_count(number) {
         if asks_one(demanded, reference, number, k) {
             return true;

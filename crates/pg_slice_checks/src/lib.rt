@@ -1,4 +1,5 @@
 //! What a step of a reference run asks to be known, and what an input must give of it.
+// How goals are searched for: see docs/CONTRIBUTING.md.
 #![tactic(auto)]
 
 mod asked;

@@ -118,6 +118,7 @@ pub fn conflicts(alloc: Global, footprints: &[Footprint]) -> Result<Vec<bool>, A
 {
     let merged = merge(alloc, footprints)?;
     let met = conflicts_of_all(alloc, merged.kept.as_slice())?;
+    // In two lines for the proof: see docs/CONTRIBUTING.md.
     let answers = answers_at(alloc, met.as_slice(), merged.numbers.as_slice())?;
     Ok(answers)
 }

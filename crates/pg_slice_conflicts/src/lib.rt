@@ -1,4 +1,5 @@
 //! Which of the byte ranges that steps may access conflict with one of another thread in an overlapping interval.
+// How goals are searched for: see docs/CONTRIBUTING.md.
 #![tactic(auto)]
 
 mod fast;

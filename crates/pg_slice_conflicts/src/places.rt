@@ -54,7 +54,7 @@ fn placed_at(bytes: &[u64], footprint: Footprint) -> Placed
     ensures placed { IsPlaced bytes.now result }
     ensures footprint { result.footprint ≡ footprint }
 {
-    // Reads that let the proof know the numbers' bounds.
+    // Read for the proof: see docs/CONTRIBUTING.md.
     let _low = footprint.low;
     let _high = footprint.high;
     Placed {
@@ -87,6 +87,7 @@ pub(crate) fn place_all(alloc: Global, footprints: &[Footprint]) -> Result<Vec<P
     ensures { IfOk result (λ v. ArePlaced footprints.now v.items) }
 {
     let bytes = starts(alloc, footprints)?;
+    // In two lines for the proof: see docs/CONTRIBUTING.md.
     let placed = placed_among(alloc, bytes.as_slice(), footprints)?;
     Ok(placed)
 }

@@ -1,5 +1,6 @@
 //! What is known of each byte of memory along a reference run: the bytes of numbers of nodes, and the decisions that are
 //! blamed for the rest. All within given bounds is forgotten without going over the bytes.
+// How goals are searched for: see docs/CONTRIBUTING.md.
 #![tactic(auto)]
 
 mod change;

@@ -37,6 +37,7 @@ use Rattle.pg_slice_passes.specs.Along.{conditions_before, first_steps, own_asks
 use Rattle.pg_slice_passes.specs.Given.{reference_of}
 use Rattle.pg_slice_passes.specs.Passes.{HasPassed}
 use Rattle.pg_slice_passes.specs.Footprints.{asks_of_met, met_asks, owner, owners_at, owners_of}
+use Rattle.pg_slice_passes.specs.Rows.{all_footprints, all_owners}
 
 -- ---- all steps
 
@@ -299,16 +300,16 @@ same_admitted R d ys input e = ap (λ (l : List Seen). all_met (all_of (conditio
 -- what is missing, by what is gathered
 pub missing_is : (p : NumberedProgram) (regions : Regions) (gated : List InstrId) (input : List ℤ) (xs : List Step) (d : Taken) (ns : NodeList) (g : Gathered) (whole : List Decision)
     → HasPassed (reference_of p regions gated input xs) d (length xs) ns g →
-    whole ≡ g.asked.missing.items ++ asks_of_met d g.footprints.footprints.items g.footprints.owners.items (map (is_met g.footprints.footprints.items) g.footprints.footprints.items)
+    whole ≡ g.asked.missing.items ++ asks_of_met d (all_footprints g.footprints) (all_owners g.footprints) (map (is_met (all_footprints g.footprints)) (all_footprints g.footprints))
     → (z : Decision) → Contains whole z
     ↔ Contains (asks (reference_of p regions gated input xs) d) z
 missing_is p regions gated input xs d ns g whole a e z =
     let R = reference_of p regions gated input xs in
     let ys = first_steps R d (length xs) in
-    let ps = g.footprints.footprints.items in
+    let ps = all_footprints g.footprints in
     let ms = map (is_met ps) ps in
     let same : whole ≡ all_of (own_asks R d) ys ++ asks_of_met d ps (owners_of ys) ms =
-    e ∙ ap (λ (l : List Decision). l ++ asks_of_met d ps g.footprints.owners.items ms) a.missing ∙ ap (λ (os : List Owner). all_of (own_asks R d) ys ++ asks_of_met d ps os ms) a.owners in
+    e ∙ ap (λ (l : List Decision). l ++ asks_of_met d ps (all_owners g.footprints) ms) a.missing ∙ ap (λ (os : List Owner). all_of (own_asks R d) ys ++ asks_of_met d ps os ms) a.owners in
     let h = all_are_asked R d ys ms ps (all_steps p regions gated input xs d) a.footprints refl z in
     (λ k. h.0 (subst (λ (l : List Decision). Contains l z) same k), λ k. subst (λ (l : List Decision). Contains l z) (sym same) (h.1 k))
 

@@ -1,5 +1,5 @@
 -- Footprints that are added step by step are in order.
-use Rattle.std.proofs.Common.{◌≡◌, ◌≢◌, ℕ, zero, suc, ◌+◌, ◌<◌, ◌≤◌, List, [], ◌∷◌, ◌++◌, Some, slice_get, length, length-append, refl, sym, ap}
+use Rattle.std.proofs.Common.{◌≡◌, ◌≢◌, ℕ, zero, suc, ◌+◌, ◌<◌, ◌≤◌, List, [], ◌∷◌, ◌++◌, Some, slice_get, sym, ap}
 use Rattle.std.proofs.Common.{◌∙◌, subst, arith, append-nil, append_assoc}
 use Rattle.std.specs.Prelude.{slice_index_or}
 use Rattle.std.specs.List.{AllByRecursion}
@@ -17,27 +17,31 @@ use Rattle.pg_run_trace.specs.declared.step.Step.{Step}
 use Rattle.pg_run_trace.specs.Races.{recorded, timed_by}
 use Rattle.pg_slice_passes.specs.declared.footprints.Owner.{Owner}
 use Rattle.pg_slice_passes.specs.declared.footprints.Footprints.{Footprints}
+use Rattle.pg_slice_passes.specs.Rows.{AddsOne, AreRows}
 use Rattle.pg_slice_passes.specs.Timed.{AddsOf, AreEarlier, IsEarlier, IsOf}
+use Rattle.pg_slice_passes.proofs.RowsOfFootprints.{no_rows}
 use Rattle.pg_law_demands.proofs.of_pg_law_least.FootprintsInOrder.{all_append, all_weaker}
 
 -- ---- footprints of one step
 
-pub adds_nothing : (x : Step) (i : Interval) (ps : Footprints) → AddsOf x i ps ps
-adds_nothing x i ps = record { behind = []; owned = []; footprints = sym (append-nil ps.footprints.items); owners = sym (append-nil ps.owners.items); each = tt; as_many = refl }
+pub adds_nothing : (x : Step) (i : Interval) (ps : Footprints) → AreRows ps → AddsOf x i ps ps
+adds_nothing x i ps r = record { more = []; kept = sym (append-nil ps.kept.items); each = tt; rows = r }
 
-pub adds_one : (x : Step) (i : Interval) (old new : Footprints) (f : Footprint) (o : Owner) → new.footprints.items ≡ old.footprints.items ++ f ∷ [] → new.owners.items ≡ old.owners.items ++ o ∷ []
-    → f.thread.0 ≡ x.thread.0 → f.low ≡ i.low → f.high ≡ i.high →
-    AddsOf x i old new
-adds_one x i old new f o e w t l h = record { behind = f ∷ []; owned = o ∷ []; footprints = e; owners = w; each = (record { thread = t; low = l; high = h }, tt); as_many = refl }
+pub adds_one : (x : Step) (i : Interval) (old new : Footprints) (f : Footprint) (o : Owner) → AddsOne f o old new → f.thread.0 ≡ x.thread.0 → f.low ≡ i.low → f.high ≡ i.high → AddsOf x i old new
+adds_one x i old new f o a t l h = record {
+  more = a.more;
+  kept = a.kept;
+  each = all_weaker (λ (g : Footprint). g ≡ f) (IsOf x i) a.more
+      (λ g e. record { thread = ap (λ (y : Footprint). y.thread.0) e ∙ t; low = ap (λ (y : Footprint). y.low) e ∙ l; high = ap (λ (y : Footprint). y.high) e ∙ h }) a.each;
+  rows = a.rows;
+}
 
 pub adds_both : (x : Step) (i : Interval) (old between new : Footprints) → AddsOf x i old between → AddsOf x i between new → AddsOf x i old new
 adds_both x i old between new a b = record {
-  behind = a.behind ++ b.behind;
-  owned = a.owned ++ b.owned;
-  footprints = b.footprints ∙ ap (λ l. l ++ b.behind) a.footprints ∙ append_assoc old.footprints.items a.behind b.behind;
-  owners = b.owners ∙ ap (λ l. l ++ b.owned) a.owners ∙ append_assoc old.owners.items a.owned b.owned;
-  each = all_append (IsOf x i) a.behind b.behind a.each b.each;
-  as_many = length-append a.owned b.owned ∙ ap (λ n. n + length b.owned) a.as_many ∙ ap (λ n. length a.behind + n) b.as_many ∙ sym (length-append a.behind b.behind);
+  more = a.more ++ b.more;
+  kept = b.kept ∙ ap (λ l. l ++ b.more) a.kept ∙ append_assoc old.kept.items a.more b.more;
+  each = all_append (IsOf x i) a.more b.more a.each b.each;
+  rows = b.rows;
 }
 
 -- ---- one step more
@@ -67,25 +71,24 @@ pair_at P (x ∷ xs) (suc n) (suc j) a b e h k l = pair_at P xs n j a b e.1 h k 
 lows_first : (xs : List Step) → EachPair (λ (x y : Timed Step). x.low ≤ y.high) (timed_by recorded xs)
 lows_first xs = low_high recorded (owners recorded xs) 0 xs (omega arith) (own_turns recorded xs)
 
-pub earlier_none : (xs : List Step) (ps : Footprints) → ps.footprints.items ≡ [] → ps.owners.items ≡ [] → AreEarlier xs 0 ps
-earlier_none xs ps e h = record {
+pub earlier_none : (xs : List Step) (ps : Footprints) → ps.kept.items ≡ [] → ps.rows.items ≡ [] → AreEarlier xs 0 ps
+earlier_none xs ps e q = record {
   order = subst (λ (l : List Footprint). InOrder l) (sym e) tt;
   each = subst (λ (l : List Footprint). AllByRecursion (IsEarlier xs 0) l) (sym e) tt;
-  as_many = ap (λ l. length l) h ∙ sym (ap (λ l. length l) e);
+  rows = no_rows ps e q;
 }
 
 pub earlier_more : (xs : List Step) (intervals : List Interval) (n : ℕ) (x : Step) (i : Interval) (old new : Footprints) → intervals ≡ intervals_of Recorded xs → slice_get xs n ≡ Some x
     → i ≡ slice_index_or intervals n i →
     AddsOf x i old new → AreEarlier xs n old → AreEarlier xs (n + 1) new
 earlier_more xs intervals n x i old new e at is a b = record {
-  order = subst (λ (l : List Footprint). InOrder l) (sym a.footprints) (pairs_append old.footprints.items a.behind b.order (own_order x i a.behind a.each)
-      (all_weaker (IsEarlier xs n) (λ p. AllByRecursion (stand p) a.behind) old.footprints.items
-      (λ p h. all_weaker (IsOf x i) (stand p) a.behind (λ q k d. subst (λ m. p.low ≤ m) (sym k.high) (up p h)) a.each) b.each));
-  each = subst (λ (l : List Footprint). AllByRecursion (IsEarlier xs (n + 1)) l) (sym a.footprints) (all_append (IsEarlier xs (n + 1)) old.footprints.items a.behind
-      (all_weaker (IsEarlier xs n) (IsEarlier xs (n + 1)) old.footprints.items (λ p h j t l. h j t (omega (arith, l))) b.each)
-      (all_weaker (IsOf x i) (IsEarlier xs (n + 1)) a.behind (λ p h j t l k. subst (λ m. m ≤ t.high) (sym h.low) (below j t l k)) a.each));
-  as_many = ap (λ l. length l) a.owners ∙ length-append old.owners.items a.owned ∙ ap (λ m. m + length a.owned) b.as_many ∙ ap (λ m. length old.footprints.items + m) a.as_many
-      ∙ sym (length-append old.footprints.items a.behind) ∙ sym (ap (λ l. length l) a.footprints);
+  order = subst (λ (l : List Footprint). InOrder l) (sym a.kept) (pairs_append old.kept.items a.more b.order (own_order x i a.more a.each)
+      (all_weaker (IsEarlier xs n) (λ p. AllByRecursion (stand p) a.more) old.kept.items
+      (λ p h. all_weaker (IsOf x i) (stand p) a.more (λ q k d. subst (λ m. p.low ≤ m) (sym k.high) (up p h)) a.each) b.each));
+  each = subst (λ (l : List Footprint). AllByRecursion (IsEarlier xs (n + 1)) l) (sym a.kept) (all_append (IsEarlier xs (n + 1)) old.kept.items a.more
+      (all_weaker (IsEarlier xs n) (IsEarlier xs (n + 1)) old.kept.items (λ p h j t l. h j t (omega (arith, l))) b.each)
+      (all_weaker (IsOf x i) (IsEarlier xs (n + 1)) a.more (λ p h j t l k. subst (λ m. m ≤ t.high) (sym h.low) (below j t l k)) a.each));
+  rows = a.rows;
 }
   where
     here : Timed Step

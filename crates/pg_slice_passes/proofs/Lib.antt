@@ -12,6 +12,8 @@ pub mod OneStepMore
 pub mod AllAsked
 pub mod Slicing
 pub mod AddedNodes
+pub mod FixedPaths
+pub mod RowsOfFootprints
 pub mod FootprintOrder
 pub mod TraceSteps
 pub mod SliceOf

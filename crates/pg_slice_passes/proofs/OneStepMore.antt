@@ -47,6 +47,7 @@ use Rattle.pg_slice_passes.specs.Along.{asked_before, conditions_before, first_s
 use Rattle.pg_slice_passes.specs.Given.{HasLandmarks}
 use Rattle.pg_slice_passes.specs.Passes.{HasPassed, IsAt, IsTimed}
 use Rattle.pg_slice_passes.specs.Footprints.{owner, owners_at, owners_of}
+use Rattle.pg_slice_passes.specs.Rows.{all_footprints, all_owners}
 use Rattle.pg_slice_passes.specs.State.{AreKept, Knows, extents_of}
 use Rattle.pg_slice_passes.proofs.RunSteps.{known_more, steps_more}
 
@@ -219,8 +220,8 @@ module _ (R : Reference) (d : Taken) (n : ℕ) (m : Moment) (got : slice_get R.m
   pub passed_more : (old new : NodeList) (g h : Gathered) → Grew old new → HasPassed R d n old g → Knows R.program new d.pinned h.symbolic_nodes (after_step R d n m (known_at R d n)) →
       h.asked.missing.items ≡ g.asked.missing.items ++ own_asks R d here →
       ((input : List ℤ) → all_hold new h.asked.checks.items input ≡ (all_hold new g.asked.checks.items input && all_met (conditions_at R d here) input)) →
-      AreNamed (length new) h.asked.checks.items → h.footprints.footprints.items ≡ g.footprints.footprints.items ++ (access_footprints here ++ region_footprints here)
-      → h.footprints.owners.items ≡ g.footprints.owners.items ++ owners_at here →
+      AreNamed (length new) h.asked.checks.items → all_footprints h.footprints ≡ all_footprints g.footprints ++ (access_footprints here ++ region_footprints here)
+      → all_owners h.footprints ≡ all_owners g.footprints ++ owners_at here →
       HasPassed R d (n + 1) new h
   passed_more old new g h grew a known missing checks named footprints owned = record {
     known = subst (λ (k : SymbolicState). Knows R.program new d.pinned h.symbolic_nodes k) (sym (known_next R d n m got)) known;
@@ -251,7 +252,7 @@ module _ (R : Reference) (d : Taken) (n : ℕ) (m : Moment) (got : slice_get R.m
 -- before the first step
 pub passed_none : (R : Reference) (d : Taken) (ns : NodeList) (g : Gathered) → Knows R.program ns d.pinned g.symbolic_nodes (start_of R.program) → g.asked.missing.items ≡ []
     → g.asked.checks.items ≡ [] →
-    g.footprints.footprints.items ≡ [] → g.footprints.owners.items ≡ [] → HasPassed R d 0 ns g
+    all_footprints g.footprints ≡ [] → all_owners g.footprints ≡ [] → HasPassed R d 0 ns g
 unfolding known_from
 passed_none R d ns g known missing checks footprints owned = record {
   known = known;

@@ -2,6 +2,7 @@ pub mod Given
 pub mod Along
 pub mod State
 pub mod Footprints
+pub mod Rows
 pub mod Passes
 pub mod Timed
 pub mod Listed

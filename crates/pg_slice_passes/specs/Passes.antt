@@ -22,6 +22,7 @@ use Rattle.pg_slice_passes.specs.declared.state.SymbolicRun.{SymbolicRun}
 use Rattle.pg_law_demands.specs.Along.{known_at}
 use Rattle.pg_slice_passes.specs.Along.{asked_before, conditions_before, first_steps}
 use Rattle.pg_slice_passes.specs.Footprints.{owners_of}
+use Rattle.pg_slice_passes.specs.Rows.{all_footprints, all_owners}
 use Rattle.pg_slice_passes.specs.State.{Knows}
 
 -- x is step n of the run under these decisions, of this instruction, before which this is kept
@@ -58,5 +59,5 @@ pub record HasPassed (R : Reference) (d : Taken) (n : ℕ) (ns : NodeList) (g : 
   pub missing : g.asked.missing.items ≡ asked_before R d n
   pub checks : (input : List ℤ) → all_hold ns g.asked.checks.items input ≡ all_met (conditions_before R d n) input
   pub named : AreNamed (length ns) g.asked.checks.items
-  pub footprints : g.footprints.footprints.items ≡ footprints_of (first_steps R d n)
-  pub owners : g.footprints.owners.items ≡ owners_of (first_steps R d n)
+  pub footprints : all_footprints g.footprints ≡ footprints_of (first_steps R d n)
+  pub owners : all_owners g.footprints ≡ owners_of (first_steps R d n)

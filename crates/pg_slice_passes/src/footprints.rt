@@ -1,6 +1,7 @@
 //! The footprints of the steps of a run, and what is asked where they are met.
 
-ghost use Rattle.std.specs.Prelude.{◌≡◌, ◌<◌, ◌++◌, length, IfSome, OnOk};
+ghost use Rattle.std.specs.Prelude.{◌≡◌, ◌<◌, ◌++◌, length, IfOk, IfSome, OnOk};
+ghost use Rattle.std.specs.List.{AllByRecursion};
 ghost use Rattle.pg_ir.specs.declared.instr.Instr.{Instr as AnInstr};
 ghost use Rattle.pg_ir.specs.Program.{NumberedProgram};
 ghost use Rattle.pg_precondition.specs.Nodes.{NodeList};
@@ -8,7 +9,8 @@ ghost use Rattle.pg_slice_rules.specs.Known.{Reference, Seen, Taken};
 ghost use Rattle.pg_slice_decisions.specs.Steps.{taken_by};
 ghost use Rattle.pg_law_demands.specs.pg_law_least.Footprints.{access_footprints, region_footprints};
 ghost use Rattle.pg_slice_replay.specs.Kept.{landmark_at, step_count};
-ghost use Rattle.pg_slice_passes.specs.Footprints.{asks_of_met, owners_at};
+ghost use Rattle.pg_slice_passes.specs.Footprints.{owners_at};
+ghost use Rattle.pg_slice_passes.specs.Rows.{AddsOne, AreRows, IsWithin, all_footprints, all_owners, asks_of_one, asks_of_rows};
 ghost use Rattle.std.specs.Prelude.{◌∷◌, [], true, if◌then◌else◌};
 ghost use Rattle.std.specs.Option.{option_to_list};
 ghost use Rattle.pg_slice_rules.specs.Rules as rules;
@@ -20,6 +22,9 @@ ghost use Rattle.std.specs.Prelude.{Some, map, slice_get};
 ghost use Rattle.pg_slice_conflicts.specs.declared.footprint.Footprint.{Footprint as AFootprint};
 
 use crate::byte_bounds::bounds;
+use crate::rows::{
+    Row, SLOTS, add_number, footprints_of, guess, is_kept, marks_of, remember, row_at,
+};
 use crate::state::SymbolicRun;
 use pg_run_trace::{Step, StepKind};
 use pg_schedule::Interval;
@@ -30,17 +35,18 @@ use pg_slice_rules::Decision;
 use std::alloc::{AllocError, Global};
 
 /// The step of a footprint, and whether it is a load or a store that is no event.
-#[derive(Clone, Copy)]
+#[derive(Clone, Copy, PartialEq, Eq)]
 pub struct Owner {
     pub step: usize,
     pub plain: bool,
 }
 
-/// The footprints of the steps of a run, and their steps.
+/// The footprints of the steps of a run: those that are kept, and rows of them, one after another. Slots have the numbers of kept ones.
 #[derive(Drop)]
 pub(crate) struct Footprints {
-    pub(crate) footprints: Vec<Footprint>,
-    pub(crate) owners: Vec<Owner>,
+    pub(crate) kept: Vec<Footprint>,
+    pub(crate) rows: Vec<Row>,
+    slots: Vec<usize>,
 }
 
 /// A step of a run: what it did, its interval, and its number.
@@ -72,23 +78,37 @@ fn footprint(at: &TimedStep, word: u64, writes: bool, of_region: bool) -> Footpr
 
 impl Footprints {
     /// No footprints.
-    pub(crate) fn new(alloc: Global) -> Footprints
-        ensures footprints { result.footprints.items ≡ [] }
-        ensures owners { result.owners.items ≡ [] }
+    pub(crate) fn new(alloc: Global) -> Result<Footprints, AllocError>
+        ensures kept { IfOk result (λ f. f.kept.items ≡ []) }
+        ensures rows { IfOk result (λ f. f.rows.items ≡ []) }
     {
-        Footprints {
-            footprints: Vec::new(alloc),
-            owners: Vec::new(alloc),
-        }
+        let slots = vec![in alloc; 0; SLOTS]?;
+        Ok(Footprints {
+            kept: Vec::new(alloc),
+            rows: Vec::new(alloc),
+            slots,
+        })
     }
 
     /// One footprint more.
     fn push(&mut self, footprint: Footprint, owner: Owner) -> Result<(), AllocError>
-        ensures footprints { OnOk result (self.new.footprints.items ≡ self.old.footprints.items ++ footprint ∷ []) }
-        ensures owners { OnOk result (self.new.owners.items ≡ self.old.owners.items ++ owner ∷ []) }
+        requires { AreRows self.old }
+        ensures { OnOk result (AddsOne footprint owner self.old self.new) }
     {
-        self.footprints.push(footprint)?;
-        self.owners.push(owner)?;
+        let number = guess(
+            self.kept.as_slice(),
+            self.rows.as_slice(),
+            self.slots.as_slice(),
+            footprint,
+        );
+        if is_kept(self.kept.as_slice(), number, footprint) {
+            add_number(&mut self.rows, owner, number)?;
+            return Ok(());
+        }
+        let number = self.kept.len();
+        remember(self.slots.as_mut_slice(), footprint, number);
+        self.kept.push(footprint)?;
+        add_number(&mut self.rows, owner, number)?;
         Ok(())
     }
 
@@ -101,11 +121,12 @@ impl Footprints {
         of_region: bool,
         owner: Owner,
     ) -> Result<(), AllocError>
+        requires rows { AreRows self.old }
         requires low { at.now.interval.low < 4294967296 }
         requires high { at.now.interval.high < 4294967296 }
         ensures timed { OnOk result (AddsOf at.now.step.now at.now.interval self.old self.new) }
-        ensures footprints { OnOk result (self.new.footprints.items ≡ self.old.footprints.items ++ footprint_at at.now.step.now at.now.interval word writes of_region ∷ []) }
-        ensures owners { OnOk result (self.new.owners.items ≡ self.old.owners.items ++ owner ∷ []) }
+        ensures footprints { OnOk result (all_footprints self.new ≡ all_footprints self.old ++ footprint_at at.now.step.now at.now.interval word writes of_region ∷ []) }
+        ensures owners { OnOk result (all_owners self.new ≡ all_owners self.old ++ owner ∷ []) }
     {
         self.push(footprint(at, word, writes, of_region), owner)?;
         Ok(())
@@ -113,15 +134,16 @@ impl Footprints {
 
     /// The footprints of a live step: of its access, and of its region.
     pub(crate) fn add(&mut self, at: &TimedStep) -> Result<(), AllocError>
+        requires rows { AreRows self.old }
         requires number { at.now.n < step_count at.now.r.now }
         requires low { at.now.interval.low < 4294967296 }
         requires high { at.now.interval.high < 4294967296 }
         ensures timed { OnOk result (AddsOf at.now.step.now at.now.interval self.old self.new) }
         ensures footprints { OnOk result ((x : Seen) → IsTimed x at.now.step.now at.now.interval → x.live ≡ true → IfSome (landmark_at at.now.r.now at.now.n) (λ l. x.region ≡ l.region)
-            → self.new.footprints.items ≡ self.old.footprints.items ++ (access_footprints x ++ region_footprints x)) }
+            → all_footprints self.new ≡ all_footprints self.old ++ (access_footprints x ++ region_footprints x)) }
         ensures owners { OnOk result ((x : Seen) → IsTimed x at.now.step.now at.now.interval → x.live ≡ true → x.number ≡ at.now.n
             → IfSome (landmark_at at.now.r.now at.now.n) (λ l. x.region ≡ l.region)
-            → self.new.owners.items ≡ self.old.owners.items ++ owners_at x) }
+            → all_owners self.new ≡ all_owners self.old ++ owners_at x) }
     {
         let owner = Owner {
             step: at.n,
@@ -134,13 +156,14 @@ impl Footprints {
 
     /// The footprint of the access of a live step, if it has one.
     fn add_access(&mut self, at: &TimedStep, owner: Owner) -> Result<(), AllocError>
+        requires rows { AreRows self.old }
         requires low { at.now.interval.low < 4294967296 }
         requires high { at.now.interval.high < 4294967296 }
         ensures timed { OnOk result (AddsOf at.now.step.now at.now.interval self.old self.new) }
         ensures footprints { OnOk result ((x : Seen) → IsTimed x at.now.step.now at.now.interval → x.live ≡ true
-            → self.new.footprints.items ≡ self.old.footprints.items ++ access_footprints x) }
+            → all_footprints self.new ≡ all_footprints self.old ++ access_footprints x) }
         ensures owners { OnOk result ((x : Seen) → IsTimed x at.now.step.now at.now.interval → x.live ≡ true
-            → self.new.owners.items ≡ self.old.owners.items ++ map (λ (f : AFootprint). owner) (access_footprints x)) }
+            → all_owners self.new ≡ all_owners self.old ++ map (λ (f : AFootprint). owner) (access_footprints x)) }
     {
         if let Some(a) = at.step.access() {
             self.note(at, a.pointer, a.writes, false, owner)?;
@@ -150,14 +173,15 @@ impl Footprints {
 
     /// The footprint of an access of a region, if there is one with this number.
     fn add_free(&mut self, at: &TimedStep, k: usize, owner: Owner) -> Result<(), AllocError>
+        requires rows { AreRows self.old }
         requires low { at.now.interval.low < 4294967296 }
         requires high { at.now.interval.high < 4294967296 }
         ensures timed { OnOk result (AddsOf at.now.step.now at.now.interval self.old self.new) }
         ensures footprints { IfSome (landmark_at at.now.r.now at.now.n)
             (λ l. IfSome l.region (λ f. OnOk result ((x : Seen) (a : AnAccess) → IsTimed x at.now.step.now at.now.interval → slice_get f.accesses k ≡ Some a
-            → self.new.footprints.items ≡ self.old.footprints.items ++ footprint_by x a ∷ []))) }
+            → all_footprints self.new ≡ all_footprints self.old ++ footprint_by x a ∷ []))) }
         ensures owners { IfSome (landmark_at at.now.r.now at.now.n) (λ l. IfSome l.region (λ f. OnOk result ((a : AnAccess) → slice_get f.accesses k ≡ Some a
-            → self.new.owners.items ≡ self.old.owners.items ++ owner ∷ []))) }
+            → all_owners self.new ≡ all_owners self.old ++ owner ∷ []))) }
     {
         if let Some(a) = at.r.access(at.n, k) {
             self.note(at, a.last, a.writes, true, owner)?;
@@ -167,14 +191,15 @@ impl Footprints {
 
     /// The footprints of the region of a live step, which is free where it has one.
     fn add_region(&mut self, at: &TimedStep, owner: Owner) -> Result<(), AllocError>
+        requires rows { AreRows self.old }
         requires number { at.now.n < step_count at.now.r.now }
         requires low { at.now.interval.low < 4294967296 }
         requires high { at.now.interval.high < 4294967296 }
         ensures timed { OnOk result (AddsOf at.now.step.now at.now.interval self.old self.new) }
         ensures footprints { OnOk result ((x : Seen) → IsTimed x at.now.step.now at.now.interval → x.live ≡ true → IfSome (landmark_at at.now.r.now at.now.n) (λ l. x.region ≡ l.region)
-            → self.new.footprints.items ≡ self.old.footprints.items ++ region_footprints x) }
+            → all_footprints self.new ≡ all_footprints self.old ++ region_footprints x) }
         ensures owners { OnOk result ((x : Seen) → IsTimed x at.now.step.now at.now.interval → x.live ≡ true → IfSome (landmark_at at.now.r.now at.now.n) (λ l. x.region ≡ l.region)
-            → self.new.owners.items ≡ self.old.owners.items ++ map (λ (f : AFootprint). owner) (region_footprints x)) }
+            → all_owners self.new ≡ all_owners self.old ++ map (λ (f : AFootprint). owner) (region_footprints x)) }
     {
         if !at.r.is_free(at.n) {
             return Ok(());
@@ -192,16 +217,17 @@ pub(crate) fn add_footprints(
     s: &SymbolicRun,
     at: &TimedStep,
 ) -> Result<(), AllocError>
+    requires rows { AreRows footprints.old }
     requires number { at.now.n < step_count at.now.r.now }
     requires low { at.now.interval.low < 4294967296 }
     requires high { at.now.interval.high < 4294967296 }
     ensures timed { OnOk result (AddsOf at.now.step.now at.now.interval footprints.old footprints.new) }
     ensures footprints { OnOk result ((R : Reference) (d : Taken) (p : NumberedProgram) (ns : NodeList) (i : AnInstr) (y : Seen) → IsAt R d p ns s.now at.now.r.now at.now.n at.now.step.now i y
         → IsTimed y at.now.step.now at.now.interval
-        → footprints.new.footprints.items ≡ footprints.old.footprints.items ++ (access_footprints y ++ region_footprints y)) }
+        → all_footprints footprints.new ≡ all_footprints footprints.old ++ (access_footprints y ++ region_footprints y)) }
     ensures owners { OnOk result ((R : Reference) (d : Taken) (p : NumberedProgram) (ns : NodeList) (i : AnInstr) (y : Seen) → IsAt R d p ns s.now at.now.r.now at.now.n at.now.step.now i y
         → IsTimed y at.now.step.now at.now.interval
-        → footprints.new.owners.items ≡ footprints.old.owners.items ++ owners_at y) }
+        → all_owners footprints.new ≡ all_owners footprints.old ++ owners_at y) }
 {
     if !s.is_live(at.step.thread.0 as usize) {
         return Ok(());
@@ -255,20 +281,40 @@ fn ask_if_met(
     Ok(())
 }
 
-/// Adds what the fourth and the fifth rule ask, by which of the footprints are met.
+/// Adds what footprints of a step ask, by which of them are met.
+fn ask_row(
+    missing: &mut Vec<Decision>,
+    d: &DecisionSet,
+    owner: Owner,
+    footprints: &[Footprint],
+    marks: &[bool],
+) -> Result<(), AllocError>
+    requires { length marks.now ≡ length footprints.now }
+    ensures { OnOk result (missing.new.items ≡ missing.old.items ++ asks_of_one (taken_by d.now) owner footprints.now marks.now) }
+{
+    for i in 0..footprints.len() {
+        ask_if_met(missing, d, footprints[i].of_region, owner, marks[i])?;
+    }
+    Ok(())
+}
+
+/// Adds what the fourth and the fifth rule ask, by which of the kept footprints are met.
 pub(crate) fn ask_met(
     missing: &mut Vec<Decision>,
     d: &DecisionSet,
-    footprints: &[Footprint],
-    owners: &[Owner],
+    kept: &[Footprint],
+    rows: &[Row],
     marks: &[bool],
 ) -> Result<(), AllocError>
-    requires owners { length owners.now ≡ length footprints.now }
-    requires marks { length marks.now ≡ length footprints.now }
-    ensures { OnOk result (missing.new.items ≡ missing.old.items ++ asks_of_met (taken_by d.now) footprints.now owners.now marks.now) }
+    requires rows { AllByRecursion (IsWithin (length kept.now)) rows.now }
+    requires marks { length marks.now ≡ length kept.now }
+    ensures { OnOk result (missing.new.items ≡ missing.old.items ++ asks_of_rows (taken_by d.now) kept.now marks.now rows.now) }
 {
-    for i in 0..footprints.len() {
-        ask_if_met(missing, d, footprints[i].of_region, owners[i], marks[i])?;
+    for i in 0..rows.len() {
+        let row = row_at(rows, i);
+        let footprints = footprints_of(kept, row);
+        let met = marks_of(marks, row);
+        ask_row(missing, d, row.owner, footprints, met)?;
     }
     Ok(())
 }

@@ -1,5 +1,6 @@
 //! The slice of a reference run: passes over the run under a set of decisions, each of which gives the decisions that are
 //! missing and what an input must give, until none is missing.
+// How goals are searched for: see docs/CONTRIBUTING.md.
 #![tactic(auto)]
 
 mod byte_bounds;
@@ -11,6 +12,7 @@ mod live;
 mod memory;
 mod needs;
 mod pass;
+mod rows;
 mod slice;
 mod state;
 mod step;

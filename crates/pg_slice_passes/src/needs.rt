@@ -7,6 +7,7 @@ ghost use Rattle.pg_slice_rules.specs.declared.decision.Decision.TheVariants as 
 ghost use Rattle.pg_slice_rules.specs.Freeable.{FreeAccess as AnAccess};
 ghost use Rattle.pg_slice_rules.specs.Known.{Reference, Seen};
 ghost use Rattle.pg_slice_rules.specs.Rules as rules;
+ghost use Rattle.pg_slice_rules.specs.SymbolicValues.{Symbolic, always};
 ghost use Rattle.pg_slice_decisions.specs.Steps.{taken_by};
 ghost use Rattle.pg_slice_checks.specs.Asks.{Adds, AreNamed};
 ghost use Rattle.pg_slice_replay.specs.Given.{access_as};
@@ -17,7 +18,7 @@ ghost use Rattle.pg_slice_values.specs.SymbolicNodes.{Grew, IsSymbolicNode, symb
 ghost use Rattle.pg_slice_passes.specs.Given.{FitsBranch, FitsEvent, FitsKind, IsAccess};
 ghost use Rattle.pg_slice_passes.specs.Passes.{is_library_call};
 ghost use Rattle.pg_slice_passes.specs.State.{AreKept};
-ghost use Rattle.std.specs.Prelude.{ℕ, false, ℤ, List, is_some};
+ghost use Rattle.std.specs.Prelude.{ℕ, false, true, ℤ, List, is_some};
 ghost use Rattle.pg_run_trace.specs.declared.step.Access.{Access as AStepAccess};
 ghost use Rattle.pg_run_trace.specs.declared.step.Event.{Event as AnEvent};
 ghost use Rattle.pg_region_paths.specs.Paths.{offsets_of};
@@ -30,10 +31,11 @@ ghost use Rattle.pg_slice_passes.specs.Along.{own_asks};
 ghost use Rattle.pg_slice_passes.specs.Passes.{IsAt, fixed_by};
 
 use crate::state::SymbolicRun;
-use pg_ir::{Instr, LibraryCall, Op, Program, Value};
+use crate::step::StepAt;
+use pg_ir::{LibraryCall, Op, Program, Value};
 use pg_precondition::Nodes;
-use pg_region_paths::Root;
-use pg_run_trace::{Step, StepKind};
+use pg_region_paths::{Loads, Root, RootPath};
+use pg_run_trace::StepKind;
 use pg_slice_checks::pg_slice_memory::SymbolicMemory;
 use pg_slice_checks::{Asked, path_needs, step_needs};
 use pg_slice_decisions::DecisionSet;
@@ -80,8 +82,30 @@ struct Frame<'a> {
     registers: &'a [SymbolicNode],
 }
 
-/// What a path of a region's access asks.
-fn access_needs(
+/// Whether a root is this word on each input.
+fn is_fixed_root(p: &Program, root: Root, word: u64) -> bool
+    ensures { result ≡ true → (rs : List Symbolic) → rules.root_symbolic p.now rs root ≡ always word }
+{
+    match root {
+        Root::Global(g) => p.global_pointer(g) == Some(word),
+        Root::Const(n) => n == word,
+        Root::Register(_) | Root::Param(_) => false,
+    }
+}
+
+/// Whether a path loads nothing, and leads to this word on each input.
+fn is_fixed_path(p: &Program, path: RootPath, word: u64) -> bool
+    ensures loads { result ≡ true → offsets_of path.loads ≡ [] }
+    ensures root { result ≡ true → (rs : List Symbolic) → rules.root_symbolic p.now rs path.root ≡ always word }
+{
+    match path.loads {
+        Loads::Never => is_fixed_root(p, path.root, word),
+        _ => false,
+    }
+}
+
+/// What a path of a region's access asks, followed in what is known.
+fn followed_needs(
     asked: &mut Asked,
     nodes: &mut Nodes,
     frame: &Frame,
@@ -108,6 +132,27 @@ fn access_needs(
         pointers,
         access.last,
     )?;
+    Ok(())
+}
+
+/// What a path of a region's access asks: nothing, where it leads to the same word on each input.
+fn access_needs(
+    asked: &mut Asked,
+    nodes: &mut Nodes,
+    frame: &Frame,
+    access: &FreeAccess,
+) -> Result<(), AllocError>
+    requires registers { AreSymbolicNodes (length nodes.old) frame.now.registers.now }
+    requires names { bytes.AreSymbolicNodes (length nodes.old) frame.now.memory.now }
+    ensures grew { Grew nodes.old nodes.new }
+    ensures adds { IfOk result (λ u. (ns : NodeList) (a : AnAccess) → Grew nodes.new ns → access_as access.now ≡ a
+        → Adds ns (rules.path_needs (bytes.symbolics_of frame.now.p.now ns frame.now.memory.now)
+        (rules.root_symbolic frame.now.p.now (registers_by ns frame.now.registers.now) a.path.root) (offsets_of a.path.loads) a.at.pointers a.at.cells a.at.last) asked.old asked.new) }
+{
+    if is_fixed_path(frame.p, access.path, access.last) {
+        return Ok(());
+    }
+    followed_needs(asked, nodes, frame, access)?;
     Ok(())
 }
 
@@ -349,42 +394,38 @@ fn pin_needs(
 pub(crate) fn needs(
     asked: &mut Asked,
     nodes: &mut Nodes,
-    p: &Program,
     s: &SymbolicRun,
-    step: &Step,
-    x: &Instr,
-    d: &DecisionSet,
-    r: &ReferenceRun,
-    n: usize,
+    at: &StepAt,
 ) -> Result<(), AllocError>
-    requires fits { FitsKind x.now.op step.now.kind }
-    requires number { n < step_count r.now }
+    requires fits { FitsKind at.now.x.now.op at.now.step.now.kind }
+    requires number { at.now.n < step_count at.now.r.now }
     requires symbolic_nodes { AreKept (length nodes.old) s.now }
     ensures grew { Grew nodes.old nodes.new }
-    ensures missing { IfOk result (λ u. (R : Reference) (y : Seen) → IsAt R (taken_by d.now) p.now nodes.old s.now r.now n step.now x.now y
-        → asked.new.missing.items ≡ asked.old.missing.items ++ own_asks R (taken_by d.now) y) }
-    ensures checks { IfOk result (λ u. (R : Reference) (y : Seen) (ns : NodeList) (input : List ℤ) → Grew nodes.new ns → IsAt R (taken_by d.now) p.now nodes.old s.now r.now n step.now x.now y
-        → all_hold ns asked.new.checks.items input ≡ (all_hold ns asked.old.checks.items input && all_met (conditions_at R (taken_by d.now) y) input)) }
+    ensures missing { IfOk result (λ u. (R : Reference) (y : Seen) → IsAt R (taken_by at.now.d.now) at.now.p.now nodes.old s.now at.now.r.now at.now.n at.now.step.now at.now.x.now y
+        → asked.new.missing.items ≡ asked.old.missing.items ++ own_asks R (taken_by at.now.d.now) y) }
+    ensures checks { IfOk result (λ u. (R : Reference) (y : Seen) (ns : NodeList) (input : List ℤ) → Grew nodes.new ns
+        → IsAt R (taken_by at.now.d.now) at.now.p.now nodes.old s.now at.now.r.now at.now.n at.now.step.now at.now.x.now y
+        → all_hold ns asked.new.checks.items input ≡ (all_hold ns asked.old.checks.items input && all_met (conditions_at R (taken_by at.now.d.now) y) input)) }
     ensures named { IfOk result (λ u. AreNamed (length nodes.old) asked.old.checks.items → AreNamed (length nodes.new) asked.new.checks.items) }
 {
-    let t = step.thread.0 as usize;
+    let t = at.step.thread.0 as usize;
     if !s.is_live(t) {
         return Ok(());
     }
-    pin_needs(&mut asked.missing, d, r, &step.kind, n)?;
+    pin_needs(&mut asked.missing, at.d, at.r, &at.step.kind, at.n)?;
     let registers = s.registers(t);
     let live = LiveOp {
-        p,
-        op: &x.op,
-        kind: &step.kind,
+        p: at.p,
+        op: &at.x.op,
+        kind: &at.step.kind,
         registers,
     };
-    operand_needs(asked, nodes, &live, is_fixed(d, &step.kind, n))?;
+    operand_needs(asked, nodes, &live, is_fixed(at.d, &at.step.kind, at.n))?;
     let frame = Frame {
-        p,
+        p: at.p,
         memory: &s.memory,
         registers,
     };
-    region_needs(asked, nodes, &frame, r, n)?;
+    region_needs(asked, nodes, &frame, at.r, at.n)?;
     Ok(())
 }

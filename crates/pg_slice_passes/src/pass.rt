@@ -14,6 +14,7 @@ ghost use Rattle.pg_slice_passes.specs.Given.{AreGiven, HasLandmarks, reference_
 ghost use Rattle.std.specs.Prelude.{◌++◌, map};
 ghost use Rattle.pg_slice_conflicts.specs.Meets.{InOrder, is_met};
 ghost use Rattle.pg_slice_passes.specs.Footprints.{asks_of_met};
+ghost use Rattle.pg_slice_passes.specs.Rows.{AreRows, all_footprints, all_owners};
 ghost use Rattle.pg_slice_passes.specs.Passes.{HasPassed};
 ghost use Rattle.pg_slice_passes.specs.Timed.{AreEarlier};
 ghost use Rattle.pg_slice_passes.specs.State.{AreKept};
@@ -65,6 +66,7 @@ fn precondition(alloc: Global, nodes: Nodes, checks: &[Check]) -> Result<Precond
     for i in 0..checks.len() {
         c.push(check_at(checks, i))?;
     }
+    // In two lines for the proof: see docs/CONTRIBUTING.md.
     let r = needed(alloc, &c)?;
     Ok(r)
 }
@@ -81,6 +83,7 @@ fn pass_step(
     requires given { AreGiven run.now.p.now run.now.t.now.steps run.now.intervals.now run.now.r.now }
     requires number { n < length run.now.t.now.steps }
     requires symbolic_nodes { AreKept (length nodes.old) g.old.symbolic_nodes }
+    requires rows { AreRows g.old.footprints }
     ensures grew { Grew nodes.old nodes.new }
     ensures symbolic_nodes { OnOk result (AreKept (length nodes.new) g.new.symbolic_nodes) }
     ensures earlier { OnOk result (AreEarlier run.now.t.now.steps n g.old.footprints → AreEarlier run.now.t.now.steps (n + 1) g.new.footprints) }
@@ -92,24 +95,6 @@ fn pass_step(
     let step = run.t.step(n);
     let x = run.p.instr(step.instr);
     let interval = interval_at(run.intervals, n);
-    needs(
-        &mut g.asked,
-        nodes,
-        run.p,
-        &g.symbolic_nodes,
-        &step,
-        x,
-        d,
-        run.r,
-        n,
-    )?;
-    let at = TimedStep {
-        step: &step,
-        interval,
-        r: run.r,
-        n,
-    };
-    add_footprints(&mut g.footprints, &g.symbolic_nodes, &at)?;
     let s = StepAt {
         alloc,
         p: run.p,
@@ -119,6 +104,14 @@ fn pass_step(
         r: run.r,
         n,
     };
+    needs(&mut g.asked, nodes, &g.symbolic_nodes, &s)?;
+    let at = TimedStep {
+        step: &step,
+        interval,
+        r: run.r,
+        n,
+    };
+    add_footprints(&mut g.footprints, &g.symbolic_nodes, &at)?;
     g.symbolic_nodes.step(nodes, &s)?;
     Ok(())
 }
@@ -132,18 +125,19 @@ fn gather(
 ) -> Result<Gathered, AllocError>
     requires given { AreGiven run.now.p.now run.now.t.now.steps run.now.intervals.now run.now.r.now }
     requires nodes { nodes.old ≡ [] }
-    ensures order { IfOk result (λ g. InOrder g.footprints.footprints.items) }
-    ensures owned { IfOk result (λ g. length g.footprints.owners.items ≡ length g.footprints.footprints.items) }
+    ensures order { IfOk result (λ g. InOrder g.footprints.kept.items) }
+    ensures rows { IfOk result (λ g. AreRows g.footprints) }
     ensures named { IfOk result (λ g. AreNamed (length nodes.new) g.asked.checks.items) }
     ensures passed { IfOk result (λ g. (regions : Regions) (gated : List InstrId) (input : List ℤ)
         → HasLandmarks (reference_of run.now.p.now regions gated input run.now.t.now.steps) run.now.r.now
         → HasPassed (reference_of run.now.p.now regions gated input run.now.t.now.steps) (taken_by d.now) (length run.now.t.now.steps) nodes.new g) }
 {
     let symbolic_nodes = SymbolicRun::start(alloc, nodes, run.p)?;
+    let footprints = Footprints::new(alloc)?;
     let mut g = Gathered {
         symbolic_nodes,
         asked: Asked::new(alloc),
-        footprints: Footprints::new(alloc),
+        footprints,
     };
     for n in 0..run.t.len() {
         pass_step(alloc, nodes, &mut g, run, d, n)?;
@@ -158,29 +152,26 @@ fn all_missing(
     footprints: &Footprints,
     d: &DecisionSet,
 ) -> Result<Vec<Decision>, AllocError>
-    requires order { InOrder footprints.now.footprints.items }
-    requires owned { length footprints.now.owners.items ≡ length footprints.now.footprints.items }
+    requires order { InOrder footprints.now.kept.items }
+    requires rows { AreRows footprints.now }
     ensures { IfOk result (λ v. v.items ≡ missing.items
-        ++ asks_of_met (taken_by d.now) footprints.now.footprints.items footprints.now.owners.items (map (is_met footprints.now.footprints.items) footprints.now.footprints.items)) }
+        ++ asks_of_met (taken_by d.now) (all_footprints footprints.now) (all_owners footprints.now) (map (is_met (all_footprints footprints.now)) (all_footprints footprints.now))) }
 {
-    let marks = conflicts(alloc, footprints.footprints.as_slice())?;
-    ask_met(
-        &mut missing,
-        d,
-        footprints.footprints.as_slice(),
-        footprints.owners.as_slice(),
-        marks.as_slice(),
-    )?;
+    let kept = footprints.kept.as_slice();
+    let rows = footprints.rows.as_slice();
+    let met = conflicts(alloc, kept)?;
+    let marks = met.as_slice();
+    ask_met(&mut missing, d, kept, rows, marks)?;
     Ok(missing)
 }
 
 /// What a pass gives, by what is gathered along it.
 fn finished(alloc: Global, nodes: Nodes, g: Gathered, d: &DecisionSet) -> Result<Passed, AllocError>
-    requires order { InOrder g.footprints.footprints.items }
-    requires owned { length g.footprints.owners.items ≡ length g.footprints.footprints.items }
+    requires order { InOrder g.footprints.kept.items }
+    requires rows { AreRows g.footprints }
     requires named { AreNamed (length nodes) g.asked.checks.items }
     ensures missing { IfOk result (λ s. s.missing.items ≡ g.asked.missing.items
-        ++ asks_of_met (taken_by d.now) g.footprints.footprints.items g.footprints.owners.items (map (is_met g.footprints.footprints.items) g.footprints.footprints.items)) }
+        ++ asks_of_met (taken_by d.now) (all_footprints g.footprints) (all_owners g.footprints) (map (is_met (all_footprints g.footprints)) (all_footprints g.footprints))) }
     ensures admits { IfOk result (λ s. (input : List ℤ) → is_admitted input s.precondition ≡ all_hold nodes g.asked.checks.items input) }
     ensures needed { IfOk result (λ s. AreNeeded s.precondition) }
 {
@@ -214,6 +205,7 @@ pub fn pass_over(alloc: Global, run: &GivenRun, d: &DecisionSet) -> Result<Passe
 {
     let mut nodes = Nodes::new(alloc);
     let g = gather(alloc, &mut nodes, run, d)?;
+    // In two lines for the proof: see docs/CONTRIBUTING.md.
     let passed = finished(alloc, nodes, g, d)?;
     Ok(passed)
 }

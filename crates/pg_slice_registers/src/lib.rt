@@ -1,4 +1,5 @@
 //! What is known along a reference run, as symbolic values over one list of nodes.
+// How goals are searched for: see docs/CONTRIBUTING.md.
 #![tactic(auto)]
 
 mod call;

@@ -1,9 +1,8 @@
 -- What makes a step freeable, as it is added.
-use Rattle.std.proofs.Common.{inl, inr, ◌⊎◌, ◌≡◌, ℕ, suc, ◌+◌, ◌<◌, ◌≤◌, List, [], ◌∷◌, ◌++◌, length, drop, take, Bool, true, false, Option, Some, None}
+use Rattle.std.proofs.Common.{◌≡◌, ℕ, ◌+◌, ◌≤◌, List, [], ◌∷◌, ◌++◌, length, drop, take, Bool, true, false, Option, Some, None}
 use Rattle.std.proofs.Common.{option_map, refl, sym, ap, ◌∙◌, subst, arith}
-use Rattle.std.specs.Prelude.{not, slice_get, if◌then◌else◌}
+use Rattle.std.specs.Prelude.{IfSome, not, slice_get, if◌then◌else◌}
 use Rattle.std.specs.List.{list_any}
-use Rattle.std.proofs.lemmas.Bool.{cases_eq}
 use Rattle.std.proofs.lemmas.List.{length-append}
 use Rattle.pg_ir.specs.declared.function.Block.{Block}
 use Rattle.pg_ir.specs.declared.instr.Instr.{Instr}
@@ -15,11 +14,10 @@ use Rattle.pg_slice_rules.specs.Freeable.{FreeAccess, stores_on}
 use Rattle.pg_slice_replay.specs.declared.at.At.{At}
 use Rattle.pg_slice_replay.specs.declared.found.FoundRegion.{FoundRegion}
 use Rattle.pg_slice_replay.specs.Apart.{AddsApart, TriesApart, apart}
-use Rattle.pg_slice_replay.specs.Kept.{FitsBy, FitsIn, free_by, region_with}
-use Rattle.pg_slice_replay.specs.Paths.{Adds, access_at, accesses_in, accesses_with}
-use Rattle.pg_slice_replay.specs.Shared.{IsShared}
+use Rattle.pg_slice_replay.specs.Kept.{FitsBy, free_by, region_with}
+use Rattle.pg_slice_replay.specs.Paths.{Adds, accesses_in, accesses_with}
 use Rattle.pg_slice_replay.specs.Sought.{IsFreed, freed}
-use Rattle.pg_slice_replay.proofs.AddedRows.{drop_all, drop_front, length_drop, with_front}
+use Rattle.pg_slice_replay.proofs.AddedRows.{drop_all}
 
 module _ (p : NumberedProgram) (s : State) (t : ℕ) (us : List Rooted) (old : List At) where
   -- what was added, behind the old ones
@@ -62,26 +60,6 @@ module _ (p : NumberedProgram) (s : State) (t : ℕ) (us : List Rooted) (old : L
 
 -- ---- a free step
 
--- one more leads to the same
-pub alike_next : (xs ys : List At) (k : ℕ) → ((j : ℕ) → j < k → slice_get xs j ≡ slice_get ys j) → slice_get xs k ≡ slice_get ys k → (j : ℕ) → j < k + 1
-    → slice_get xs j ≡ slice_get ys j
-alike_next xs ys k h e j lt = go (cases_eq j k)
-  where
-    go : (j ≡ k) ⊎ (j ≡ k → ⊥) → slice_get xs j ≡ slice_get ys j
-    go (inl q) = ap (slice_get xs) q ∙ e ∙ ap (slice_get ys) (sym q)
-    go (inr d) = h j (omega (arith, lt, d))
-
--- only where the paths lead counts
-alike_with : (us : List Rooted) (xs ys : List At) → ((k : ℕ) → k < length us → slice_get xs k ≡ slice_get ys k) → accesses_with us xs ≡ accesses_with us ys
-alike_with [] xs ys h = refl
-alike_with (u ∷ us) [] [] h = refl
-alike_with (u ∷ us) [] (y ∷ ys) h = let e : None ≡ Some y = h 0 (omega arith) in absurd cc
-alike_with (u ∷ us) (x ∷ xs) [] h = let e : Some x ≡ None = h 0 (omega arith) in absurd cc
-alike_with (u ∷ us) (x ∷ xs) (y ∷ ys) h =
-    let e : Some x ≡ Some y = h 0 (omega arith) in
-    let q : x ≡ y = cc in
-    ap (λ (z : At). access_at u z ∷ accesses_with us xs) q ∙ ap (λ (l : List FreeAccess). access_at u y ∷ l) (alike_with us xs ys (λ k lt. h (suc k) (omega (arith, lt))))
-
 append_none : (xs : List At) → xs ++ [] ≡ xs
 append_none [] = refl
 append_none (x ∷ xs) = ap (λ (l : List At). x ∷ l) (append_none xs)
@@ -123,34 +101,28 @@ module _ (p : NumberedProgram) (s : State) (t : ℕ) (regions : List FoundRegion
       },
     )
 
-    -- those that are there already are taken in their place
-    pub freed_shared : (cur new : List At) (first result : ℕ) → first ≡ length old
-        → (xs : List At) × IsFreed (freed p s t (slice_get regions n)) regions old cur xs (Some (record { region = n; first = first }))
-        → IsShared cur first (length r.accesses.items) result new →
-        (xs : List At) × IsFreed (freed p s t (slice_get regions n)) regions old new xs (Some (record { region = n; first = result }))
-    freed_shared cur new first result e h (inl q) =
-        subst (λ (k : ℕ). (xs : List At) × IsFreed (freed p s t (slice_get regions n)) regions old new xs (Some (record { region = n; first = k }))) (sym q.0)
-        (subst (λ (l : List At). (xs : List At) × IsFreed (freed p s t (slice_get regions n)) regions old l xs (Some (record { region = n; first = first }))) (sym q.1) h)
-    freed_shared cur new first result e h (inr q) =
-        let us = r.accesses.items in
-        let same : new ≡ old = q.cut ∙ ap (λ (k : ℕ). take k cur) e ∙ ap (take (length old)) h.1.behind ∙ take_front p s t us old old h.0 in
-        let room : result + length us ≤ length old = omega (arith, q.within, e) in
-        let below : result ≤ length old = omega (arith, room) in
-        let early : accesses_with us (drop result cur) ≡ accesses_with us (drop result old) =
-        ap (λ (l : List At). accesses_with us (drop result l)) h.1.behind ∙ ap (accesses_with us) (drop_front old h.0 result below)
-        ∙ with_front us (drop result old) h.0 (omega (arith, room, length_drop old result below)) in (
-          [],
-          record {
-            behind = same ∙ sym (append_none old);
-            fits = subst (λ (l : List At). FitsIn l regions (Some (record { region = n; first = result }))) (sym same) (subst (λ (o : Option FoundRegion). FitsBy old result o) (sym at) room);
-            given =
-                ap (free_by new result) at
-                ∙ ap (λ (l : List At). Some (region_with r (accesses_with us (drop result l)))) same
-                ∙ ap (λ (l : List FreeAccess). Some (region_with r l)) (sym early ∙ alike_with us (drop result cur) (drop first cur) q.alike)
-                ∙ sym (ap (free_by cur first) at)
-                ∙ h.1.given;
-          },
-        )
+    -- the accesses lead where others do that are there already
+    pub freed_again : (first : ℕ) → first + length us ≤ length old → apart (accesses_in p s t us) ≡ Some (accesses_with us (drop first old))
+        → (xs : List At) × IsFreed (freed p s t (slice_get regions n)) regions old old xs (Some (record { region = n; first = first }))
+    freed_again first room e = (
+      [],
+      record {
+        behind = sym (append_none old);
+        fits = subst (λ (o : Option FoundRegion). FitsBy old first o) (sym at) (omega (arith, room, ap length all));
+        given =
+            ap (free_by old first) at
+            ∙ ap (λ (vs : List Rooted). Some (region_with r (accesses_with vs (drop first old)))) (sym all)
+            ∙ sym (ap (freed p s t) at ∙ ap (λ (o : Option (List FreeAccess)). option_map (region_with r) (apart o)) (sym same_accesses) ∙ ap (option_map (region_with r)) e);
+      },
+    )
+
+    pub freed_before : (ats : List At) → ats ≡ old → (o : Option ℕ) (first : ℕ) → o ≡ Some first
+        → IfSome o (λ (k : ℕ). (k + length us ≤ length ats) × (apart (accesses_in p s t us) ≡ Some (accesses_with us (drop k ats))))
+        → (xs : List At) × IsFreed (freed p s t (slice_get regions n)) regions old old xs (Some (record { region = n; first = first }))
+    freed_before ats same o first is h =
+        let a = subst (λ (z : Option ℕ). IfSome z (λ (k : ℕ). (k + length us ≤ length ats) × (apart (accesses_in p s t us) ≡ Some (accesses_with us (drop k ats))))) is h in
+        freed_again first (subst (λ (l : List At). first + length us ≤ length l) same a.0)
+        (subst (λ (l : List At). apart (accesses_in p s t us) ≡ Some (accesses_with us (drop first l))) same a.1)
 
 -- ---- the function of a step
 

@@ -12,6 +12,7 @@ pub mod ToldLandmarks
 pub mod KeptLandmarks
 pub mod TargetsKept
 pub mod FollowedPaths
+pub mod PathsAgain
 pub mod FramesApart
 pub mod RegionAccessCounts
 pub use Rattle.pg_law_effects.proofs as of_pg_law_effects

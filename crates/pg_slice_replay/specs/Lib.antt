@@ -2,7 +2,6 @@ pub mod OfRegions
 pub mod Landmarks
 pub mod Paths
 pub mod Apart
-pub mod Shared
 pub mod Kept
 pub mod Sought
 pub mod Targets

@@ -1,14 +1,14 @@
 //! Root paths, followed at a step.
 
-ghost use Rattle.std.specs.Prelude.{◌≡◌, ◌≤◌, ◌<◌, length, take, option_map, pos, Some, None, IfOk};
+ghost use Rattle.std.specs.Prelude.{◌≡◌, ◌≤◌, ◌<◌, [], length, take, option_map, pos, true, Some, None, IfOk};
 ghost use Rattle.pg_num.specs.Pointers.{moved_by};
 ghost use Rattle.pg_run_memory.specs.Memory.{read};
 ghost use Rattle.pg_region_paths.specs.Followed.{followed_from, root_value};
 ghost use Rattle.pg_region_paths.specs.Paths.{offsets_of};
 ghost use Rattle.pg_law_effects.specs.pg_run.Readers.{register_of};
-ghost use Rattle.pg_slice_replay.specs.Paths.{Adds, IsLoaded, along, cell_of, followed_in};
+ghost use Rattle.pg_slice_replay.specs.Paths.{Adds, IsLoaded, accesses_in, accesses_with, along, cell_of, followed_in};
 
-use crate::at::{At, rooted_at};
+use crate::at::{At, is_same, place_at, rooted_at};
 use pg_ir::{Program, ThreadNo};
 use pg_law_effects::pg_run::Machine;
 use pg_num::layout::GRANULE_BYTES;
@@ -110,4 +110,65 @@ pub(crate) fn follow_each(
         }
     }
     Ok(true)
+}
+
+/// Whether a word is there and is this one.
+fn is_word(found: Option<u64>, word: u64) -> bool
+    ensures { result ≡ true → found ≡ Some word }
+{
+    match found {
+        Some(n) => n == word,
+        None => false,
+    }
+}
+
+/// Whether a root has a value and is this word.
+fn is_root(machine: &Machine, p: &Program, t: ThreadNo, root: Root, word: u64) -> bool
+    ensures { result ≡ true → root_value p.now (register_of machine.now.state t.0) root ≡ Some word }
+{
+    let found = root_value(machine, p, t, root);
+    is_word(found, word)
+}
+
+/// Whether a path doesn't load.
+fn never_loads(loads: Loads) -> bool
+    ensures { result ≡ true → offsets_of loads ≡ [] }
+{
+    match loads {
+        Loads::Never => true,
+        _ => false,
+    }
+}
+
+/// Whether a path can be followed and leads there.
+fn leads_to(machine: &Machine, p: &Program, t: ThreadNo, path: RootPath, at: &At) -> bool
+    ensures { result ≡ true → followed_in p.now machine.now.state t.0 path ≡ Some (along (offsets_of path.loads) at.now) }
+{
+    if never_loads(path.loads) {
+        return is_root(machine, p, t, path.root, at.last);
+    }
+    let found = follow(machine, p, t, path);
+    is_same(found, Some(*at))
+}
+
+/// Whether the path of each access can be followed and leads to the place with its number.
+pub(crate) fn lead_to(
+    machine: &Machine,
+    p: &Program,
+    t: ThreadNo,
+    accesses: &[Rooted],
+    ats: &[At],
+) -> bool
+    requires { length ats.now ≡ length accesses.now }
+    ensures { result ≡ true → accesses_in p.now machine.now.state t.0 accesses.now ≡ Some (accesses_with accesses.now ats.now) }
+{
+    for i in 0..accesses.len() {
+        let access = rooted_at(accesses, i);
+        let at = place_at(ats, i);
+        let leads = leads_to(machine, p, t, access.path, &at);
+        if !leads {
+            return false;
+        }
+    }
+    true
 }

@@ -11,7 +11,7 @@ use crate::at::{At, cut, from};
 use crate::follow::follow_each;
 use crate::found::{FoundRegion, Regions, Sought};
 use crate::row::FreeStep;
-use crate::share::shared;
+use crate::share::{again, begun, keep};
 use pg_ir::{Program, ThreadNo};
 use pg_law_effects::pg_run::Machine;
 use pg_region_accesses::Rooted;
@@ -96,11 +96,20 @@ fn free_by(
     match region_at(regions, number) {
         None => Ok(None),
         Some(region) => {
-            let apart = follow_apart(machine, p, t, region.accesses.as_slice(), ats)?;
+            let accesses = region.accesses.as_slice();
+            let before = again(machine, p, t, accesses, ats.as_slice(), begun(last, number));
+            if let Some(first) = before {
+                return Ok(Some(FreeStep {
+                    region: number,
+                    first,
+                }));
+            }
+            let apart = follow_apart(machine, p, t, accesses, ats)?;
             if !apart {
                 return Ok(None);
             }
-            let first = shared(last, ats, number, first as u32, region.accesses.len());
+            let first = first as u32;
+            keep(last, number, first);
             Ok(Some(FreeStep {
                 region: number,
                 first,

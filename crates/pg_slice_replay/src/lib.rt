@@ -1,4 +1,5 @@
 //! A reference run replayed: what its trace lacks of each step.
+// How goals are searched for: see docs/CONTRIBUTING.md.
 #![tactic(auto)]
 
 mod apart;

@@ -185,10 +185,10 @@ fn count_in(accesses: &[Rooted], ats: &[At]) -> usize
 }
 
 /// The access with this number, if there is one.
-fn rooted_if(accesses: &[Rooted], k: usize) -> Option<Rooted>
-    ensures { result ≡ slice_get accesses.now k }
+fn rooted_if(accesses: &[Rooted], k: usize) -> Option<&Rooted>
+    ensures { option_copied result ≡ slice_get accesses.now k }
 {
-    accesses.get(k).copied()
+    accesses.get(k)
 }
 
 /// The access with this number among those of a region, where its path leads there.
@@ -215,8 +215,8 @@ fn is_in(set: &[bool], r: u32) -> bool
 }
 
 /// An access of a region where its path leads there.
-fn given(access: Rooted, at: At) -> FreeAccess
-    ensures { access_as result ≡ access_at access at }
+fn given(access: &Rooted, at: &At) -> FreeAccess
+    ensures { access_as result ≡ access_at access.now at.now }
 {
     let pointers = at.pointers;
     FreeAccess {

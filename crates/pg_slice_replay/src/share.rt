@@ -1,46 +1,18 @@
-//! Whether paths lead to the same places.
+//! Whether the accesses of a region lead where they led when they were kept last, so that they needn't be kept again.
 
-ghost use Rattle.std.specs.Prelude.{◌≡◌, ◌+◌, ◌≤◌, true};
-ghost use Rattle.pg_slice_replay.specs.Shared.{AreAlike, IsShared};
+ghost use Rattle.std.specs.Prelude.{◌≡◌, ◌+◌, ◌≤◌, true, Some, IfSome, drop, length};
+ghost use Rattle.pg_slice_replay.specs.Apart.{apart};
+ghost use Rattle.pg_slice_replay.specs.Paths.{accesses_in, accesses_with};
 
-use crate::at::{At, at_if, cut, from};
-
-/// Whether two paths lead to the same.
-fn is_same(a: Option<At>, b: Option<At>) -> bool
-    ensures { result ≡ true → a ≡ b }
-{
-    match (a, b) {
-        (Some(a), Some(b)) => a == b,
-        _ => false,
-    }
-}
-
-/// Whether so many paths from one place on lead to the same as those from another place on.
-fn are_alike(ats: &[At], a: usize, b: usize, count: usize) -> bool
-    ensures { result ≡ true → AreAlike ats.now a b count }
-{
-    let before = from(ats, a);
-    let last = from(ats, b);
-    for k in 0..count {
-        let x = at_if(before, k);
-        let y = at_if(last, k);
-        let same = is_same(x, y);
-        if !same {
-            return false;
-        }
-    }
-    true
-}
-
-/// Whether so many paths stand from one place on before another.
-fn ends_before(a: u32, b: u32, count: usize) -> bool
-    ensures { result ≡ true → a + count ≤ b }
-{
-    a <= b && count <= (b - a) as usize
-}
+use crate::apart::store_on_loads;
+use crate::at::{At, stand, window};
+use crate::follow::lead_to;
+use pg_ir::{Program, ThreadNo};
+use pg_law_effects::pg_run::Machine;
+use pg_region_accesses::Rooted;
 
 /// Where the accesses of a region began last, if they were kept.
-fn begun(last: &[Option<u32>], region: u32) -> Option<u32> {
+pub(crate) fn begun(last: &[Option<u32>], region: u32) -> Option<u32> {
     match last.get(region as usize) {
         Some(first) => *first,
         None => None,
@@ -48,36 +20,62 @@ fn begun(last: &[Option<u32>], region: u32) -> Option<u32> {
 }
 
 /// Keeps where the accesses of a region begin.
-fn keep(last: &mut [Option<u32>], region: u32, first: u32) {
+pub(crate) fn keep(last: &mut [Option<u32>], region: u32, first: u32) {
     if (region as usize) < last.len() {
         last[region as usize] = Some(first);
     }
 }
 
-/// Takes the accesses of a region away where they are those that it had last, and gives where they begin.
-pub(crate) fn shared(
-    last: &mut [Option<u32>],
-    ats: &mut Vec<At>,
-    region: u32,
-    first: u32,
-    count: usize,
-) -> u32
-    ensures { IsShared ats.old.items first count result ats.new.items }
+/// Whether the paths of accesses lead to these places, and no store's bounds share a byte with those from which one loads.
+fn lead_apart(machine: &Machine, p: &Program, t: ThreadNo, accesses: &[Rooted], ats: &[At]) -> bool
+    requires { length ats.now ≡ length accesses.now }
+    ensures { result ≡ true → apart (accesses_in p.now machine.now.state t.0 accesses.now) ≡ Some (accesses_with accesses.now ats.now) }
 {
-    if let Some(before) = begun(last, region) {
-        if is_again(ats.as_slice(), before, first, count) {
-            cut(ats, first as usize);
-            return before;
-        }
+    let lead = lead_to(machine, p, t, accesses, ats);
+    if !lead {
+        return false;
     }
-    keep(last, region, first);
-    first
+    let stored = store_on_loads(accesses, ats);
+    !stored
 }
 
-/// Whether so many paths from a place on lead to the same as those from an earlier place on, and don't meet them.
-fn is_again(ats: &[At], before: u32, first: u32, count: usize) -> bool
-    ensures within { result ≡ true → before + count ≤ first }
-    ensures alike { result ≡ true → AreAlike ats.now before first count }
+/// Whether the paths of accesses lead to the places that stand from this one on, if there are so many, and are apart.
+fn is_again(
+    machine: &Machine,
+    p: &Program,
+    t: ThreadNo,
+    accesses: &[Rooted],
+    ats: &[At],
+    first: u32,
+) -> bool
+    ensures room { result ≡ true → first + length accesses.now ≤ length ats.now }
+    ensures apart { result ≡ true → apart (accesses_in p.now machine.now.state t.0 accesses.now) ≡ Some (accesses_with accesses.now (drop first ats.now)) }
 {
-    ends_before(before, first, count) && are_alike(ats, before as usize, first as usize, count)
+    let there = stand(ats, first as usize, accesses.len());
+    if !there {
+        return false;
+    }
+    let places = window(ats, first as usize, accesses.len());
+    lead_apart(machine, p, t, accesses, places)
+}
+
+/// Where the accesses of a region began last, if they lead there again and are apart.
+pub(crate) fn again(
+    machine: &Machine,
+    p: &Program,
+    t: ThreadNo,
+    accesses: &[Rooted],
+    ats: &[At],
+    last: Option<u32>,
+) -> Option<u32>
+    ensures { IfSome result (λ k. (k + length accesses.now ≤ length ats.now)
+        × (apart (accesses_in p.now machine.now.state t.0 accesses.now) ≡ Some (accesses_with accesses.now (drop k ats.now)))) }
+{
+    match last {
+        Some(first) => {
+            let found = is_again(machine, p, t, accesses, ats, first);
+            if found { Some(first) } else { None }
+        }
+        None => None,
+    }
 }

@@ -1,4 +1,5 @@
 //! Definitions: which inputs may use the order of a recorded run again. Nothing runs.
+// How goals are searched for: see docs/CONTRIBUTING.md.
 #![tactic(auto)]
 
 mod decision;

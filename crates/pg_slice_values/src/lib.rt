@@ -1,4 +1,5 @@
 //! What is known of values along a reference run, as numbers of nodes of one list.
+// How goals are searched for: see docs/CONTRIBUTING.md.
 #![tactic(auto)]
 
 mod form;

@@ -183,20 +183,20 @@ module _ (R : Reference) (keeps : ExtentsKeep R) (e : Taken) where
 
   -- no step in the extent changes a thread's word
   pub word_skipped : (n : ℕ) (m : Moment) (q : slice_get R.moments n ≡ Some m) → n ≤ length R.moments → (x : Extent) → Contains (thread_of (known_at R every n) (thread_in m)).extents x →
-      (r : FreeRegion) → region_at_step R x.step ≡ Some r → (u : ℕ) → IsMet (known_at R e (suc n)) (word_demand u true) → IsMet (known_at R e (suc x.step)) (word_demand u true)
-  word_skipped zero m q l x c r is u h = let i = (inside R keeps 0 l (thread_in m) x c).earlier in absurd (omega (arith, i))
-  word_skipped (suc n) m q l x c r is u h = go (get_there R.moments n (omega (arith, l))) (λ k f d. word_skipped n k f (omega (arith, l)) x d r is u before)
+      (r : FreeRegion) → region_at_step R x.step ≡ Some r → (u : ℕ) (b : Bool) → IsMet (known_at R e (suc n)) (word_demand u b) → IsMet (known_at R e (suc x.step)) (word_demand u b)
+  word_skipped zero m q l x c r is u b h = let i = (inside R keeps 0 l (thread_in m) x c).earlier in absurd (omega (arith, i))
+  word_skipped (suc n) m q l x c r is u b h = go (get_there R.moments n (omega (arith, l))) (λ k f d. word_skipped n k f (omega (arith, l)) x d r is u b before)
     where
-      before : IsMet (known_at R e (suc n)) (word_demand u true)
-      before = pass_demand (suc n) m q x c l r is (word_demand u true) refl h
+      before : IsMet (known_at R e (suc n)) (word_demand u b)
+      before = pass_demand (suc n) m q x c l r is (word_demand u b) refl h
 
       go : (k : Moment) × (slice_get R.moments n ≡ Some k) →
-          ((k : Moment) → slice_get R.moments n ≡ Some k → Contains (thread_of (known_at R every n) (thread_in k)).extents x → IsMet (known_at R e (suc x.step)) (word_demand u true)) →
-          IsMet (known_at R e (suc x.step)) (word_demand u true)
+          ((k : Moment) → slice_get R.moments n ≡ Some k → Contains (thread_of (known_at R every n) (thread_in k)).extents x → IsMet (known_at R e (suc x.step)) (word_demand u b)) →
+          IsMet (known_at R e (suc x.step)) (word_demand u b)
       go (k, f) more = on (opened R keeps n k f (thread_in m) x c)
         where
-          on : Contains (thread_of (known_at R every n) (thread_in m)).extents x ⊎ Begins R n (thread_in m) k x → IsMet (known_at R e (suc x.step)) (word_demand u true)
+          on : Contains (thread_of (known_at R every n) (thread_in m)).extents x ⊎ Begins R n (thread_in m) k x → IsMet (known_at R e (suc x.step)) (word_demand u b)
           on (inl d) =
               let z : thread_in k ≡ thread_in m = keeps.together (of_every R n k (known_at R every n)) (in_run R keeps n k f) (thread_in m) x d in
               more k f (subst (λ (i : ℕ). Contains (thread_of (known_at R every n) i).extents x) (sym z) d)
-          on (inr b) = subst (λ (i : ℕ). IsMet (known_at R e (suc i)) (word_demand u true)) (ap (λ (z : Extent). z.step) b.own) before
+          on (inr g) = subst (λ (i : ℕ). IsMet (known_at R e (suc i)) (word_demand u b)) (ap (λ (z : Extent). z.step) g.own) before

@@ -150,10 +150,10 @@ module _ (R : Reference) (r : ReferenceRun) (hs : List ℕ) (counts : List Count
       subst (λ (k : ℕ). AreMet (known_at R e (suc k)) w) parts.step
       (skipped R told.keeps e n m q below parts.this inside_it i.region region_is w (at_region (λ q k. Passes q t k w) p.by) met)
 
-  pub skip_words : (e : Taken) (words : List Bool) → AreWordsMet (known_at R e (suc n)) words → AreWordsMet (known_at R e (suc b)) words
+  pub skip_words : (e : Taken) (words : List (Option Bool)) → AreWordsMet (known_at R e (suc n)) words → AreWordsMet (known_at R e (suc b)) words
   skip_words e words a =
       subst (λ (k : ℕ). AreWordsMet (known_at R e (suc k)) words) parts.step
-      (record { by = λ u f. word_skipped R told.keeps e n m q below parts.this inside_it i.region region_is u (a.by u f) })
+      (record { by = λ u f g. word_skipped R told.keeps e n m q below parts.this inside_it i.region region_is u f (a.by u f g) })
 
 -- ---- a decision
 

@@ -27,7 +27,7 @@ some_is : {A : Type 0} (x y : A) → Some x ≡ Some y → x ≡ y
 some_is x y q = cc
 
 -- what a live step makes of what has to be known
-abbrev pub GoesBack : NumberedProgram → ReferenceRun → ℕ → Step → Instr → Counts → Demanded → Demanded → List Bool → List Bool → Taken → Taken → Type 0
+abbrev pub GoesBack : NumberedProgram → ReferenceRun → ℕ → Step → Instr → Counts → Demanded → Demanded → List (Option Bool) → List (Option Bool) → Taken → Taken → Type 0
 GoesBack p r n step x counts w v words left d new =
     (R : Reference) (e : Taken) (m : Moment) → IsLiveStep R e p r x step counts n m → AreWithin d e → AreWordsMet (known_at R e (suc n)) words → AreMet (known_at R e (suc n)) w
     → AreMet (known_at R e n) v × AreWordsMet (known_at R e n) left × AreWithin new e
@@ -35,7 +35,7 @@ GoesBack p r n step x counts w v words left d new =
 pub live_walks : (R : Reference) (p : NumberedProgram) (r : ReferenceRun) (hs : List ℕ) (all : List Counts) (told : IsTold R r hs all)
     → R.program ≡ p → (n : ℕ) (m : Moment) → slice_get R.moments n ≡ Some m →
     (step : Step) → m.did.did ≡ step → (x : Instr) → slice_get p.instrs step.instr.0 ≡ Some x → (counts : Counts) → ((c : Counts) → slice_get all n ≡ Some c → counts ≡ c) →
-    (w v : Demanded) (words left : List Bool) (d new e : Taken) → IsClosed R e → GoesBack p r n step x counts w v words left d new → ArePinned hs d (slice_index_or hs n 0)
+    (w v : Demanded) (words left : List (Option Bool)) (d new e : Taken) → IsClosed R e → GoesBack p r n step x counts w v words left d new → ArePinned hs d (slice_index_or hs n 0)
     → AreWordsMet (known_at R e (suc n)) words → Walks R e (suc n) w d → Walks R e n v new × AreWordsMet (known_at R e n) left
 live_walks R p r hs all told program n m q step did x at counts these w v words left d new e closed back pinned met a =
     let k = told.counted.by n m q in

@@ -1,5 +1,6 @@
 //! A walk from the end of a reference run back: what has to be known before each step makes decisions that each closed set
 //! above the present ones has.
+// How goals are searched for: see docs/CONTRIBUTING.md.
 #![tactic(auto)]
 
 pub mod extents;

@@ -1,6 +1,6 @@
 //! The walk from the end of a run back.
 
-ghost use Rattle.std.specs.Prelude.{◌≡◌, ◌<◌, ◌≤◌, ℕ, suc, Bool, List, true, false, Some, IfOk, IfSome, IfNone, OnOk, length, slice_get, slice_index_or};
+ghost use Rattle.std.specs.Prelude.{◌≡◌, ◌<◌, ◌≤◌, ℕ, suc, Bool, List, Option, true, false, Some, IfOk, IfSome, IfNone, OnOk, length, slice_get, slice_index_or};
 ghost use Rattle.pg_slice_back.specs.declared.registers.Counts.{Counts as ACounts};
 ghost use Rattle.pg_slice_back.specs.Leaves.{IsLess};
 ghost use Rattle.pg_slice_rules.specs.Closed.{AreWithin, IsClosed};
@@ -128,7 +128,7 @@ fn settle_open(
         → Walks R e (suc number) demanded.old (taken_by decisions.old) → Walks R e (suc b) demanded.new (taken_by decisions.new))) }
     ensures words { IfOk result (λ o. IfSome o (λ b. (R : Reference) (e : Taken) (m : Moment)
         → IsTold R walk.now.reference.now walk.now.holders.now walk.now.counts.now → slice_get R.moments number ≡ Some m → thread_in m ≡ thread.0
-        → (words : List Bool) → AreWordsMet (known_at R e (suc number)) words → AreWordsMet (known_at R e (suc b)) words)) }
+        → (words : List (Option Bool)) → AreWordsMet (known_at R e (suc number)) words → AreWordsMet (known_at R e (suc b)) words)) }
 {
     let mut open = unsettled(alloc, walk.holders, settled.as_slice(), number)?;
     while let Some(b) = open.pop() {
@@ -145,7 +145,7 @@ fn settle_open(
 fn back(
     alloc: Global,
     demanded: &mut Demanded,
-    words: &mut Vec<bool>,
+    words: &mut Vec<Option<bool>>,
     settled: &mut Vec<bool>,
     decisions: &mut DecisionSet,
     walk: &Walk,

@@ -1,7 +1,7 @@
 //! Words of threads that have to be known: a thread's word is its argument until it ends, and then its exit value. A start gives it
 //! to a parameter, and a join writes it.
 
-ghost use Rattle.std.specs.Prelude.{◌≡◌, ◌<◌, ◌≤◌, ◌⊎◌, ℕ, suc, true, false, Some, IfOk, IfNone, IfSome, OnOk, slice_get, slice_index_or};
+ghost use Rattle.std.specs.Prelude.{◌≡◌, ◌<◌, ◌≤◌, ◌⊎◌, ℕ, suc, Bool, true, false, Some, None, IfOk, IfNone, IfSome, OnOk, replicate, slice_get, slice_index_or};
 ghost use Rattle.std.specs.List.{AllByRecursion};
 ghost use Rattle.pg_ir.specs.declared.instr.Instr.{Instr as AnInstr};
 ghost use Rattle.pg_ir.specs.Program.{NumberedProgram, parameter_count};
@@ -25,9 +25,9 @@ ghost use Rattle.pg_slice_back.specs.declared.registers.Counts.{Counts as ACount
 ghost use Rattle.pg_slice_back.specs.Leaves.{IsLess};
 ghost use Rattle.pg_slice_back.specs.Met.{AreMet};
 ghost use Rattle.pg_slice_back.specs.Steps.{IsCallOf, IsLiveStep};
-ghost use Rattle.pg_slice_walk.specs.Words.{AreWordsMet, AsksArgument, WritesAsked};
+ghost use Rattle.pg_slice_walk.specs.declared.words.AskedWord.{AskedWord as AnAskedWord};
+ghost use Rattle.pg_slice_walk.specs.Words.{AreWordsMet, AsksArgument, IsWordMet, WritesAsked};
 
-use crate::marks::{mark_at, no_marks, set_mark};
 use pg_ir::{Instr, Op, Program, ThreadNo, Value};
 use pg_run_trace::{Access, Event, Step, StepKind, TurnKind, Write};
 use pg_slice_back::pg_slice_decisions::DecisionSet;
@@ -39,12 +39,46 @@ use std::alloc::{AllocError, Global};
 /// How many threads a step can name.
 const THREADS: usize = 256;
 
+/// The word of a thread that has to be known, whole or its bounds alone.
+#[derive(Clone, Copy)]
+pub(crate) struct AskedWord {
+    pub(crate) thread: usize,
+    pub(crate) whole: bool,
+}
+
+/// So many words of which nothing is asked.
+fn unasked(alloc: Global, count: usize) -> Result<Vec<Option<bool>>, AllocError>
+    ensures { IfOk result (λ v. v.items ≡ replicate count None) }
+{
+    vec![in alloc; None; count]
+}
+
 /// No word has to be known.
-pub(crate) fn no_words(alloc: Global) -> Result<Vec<bool>, AllocError>
+pub(crate) fn no_words(alloc: Global) -> Result<Vec<Option<bool>>, AllocError>
     ensures { IfOk result (λ v. (s : SymbolicState) → AreWordsMet s v.items) }
 {
-    let words = no_marks(alloc, THREADS)?;
+    // In two lines for the proof: see docs/CONTRIBUTING.md.
+    let words = unasked(alloc, THREADS)?;
     Ok(words)
+}
+
+/// What is asked of the word of a thread.
+fn word_at(words: &[Option<bool>], thread: usize) -> Option<bool>
+    ensures { result ≡ slice_index_or words.now thread None }
+{
+    match words.get(thread) {
+        Some(asked) => *asked,
+        None => None,
+    }
+}
+
+/// Says what is asked of the word of a thread, if there is one.
+fn set_word(words: &mut Vec<Option<bool>>, thread: usize, whole: bool)
+    ensures { (u : ℕ) (b : Bool) → slice_index_or words.new.items u None ≡ Some b → (slice_index_or words.old.items u None ≡ Some b) ⊎ ((u ≡ thread) × (whole ≡ b)) }
+{
+    if thread < words.len() {
+        words[thread] = Some(whole);
+    }
 }
 
 /// Whether a byte of a write has to be known.
@@ -63,14 +97,17 @@ fn is_asked(demanded: &Demanded, write: Write) -> bool
     found.is_some()
 }
 
-/// The thread whose word a join writes to bytes of which one has to be known, if it does so.
-fn joined(demanded: &Demanded, event: &Event) -> Option<usize>
-    ensures { IfSome result (λ u. (x : AWrite) × (event.now.write ≡ Some x) × WritesAsked demanded.now x × (u ≡ event.now.object)) }
+/// The word that a join writes to bytes of which one has to be known, if it does so: the whole of it.
+fn joined(demanded: &Demanded, event: &Event) -> Option<AskedWord>
+    ensures { IfSome result (λ u. (x : AWrite) × (event.now.write ≡ Some x) × WritesAsked demanded.now x × (u.thread ≡ event.now.object) × (u.whole ≡ true)) }
 {
     match event.write {
         Some(write) => {
             if is_asked(demanded, write) {
-                Some(event.object as usize)
+                Some(AskedWord {
+                    thread: event.object as usize,
+                    whole: true,
+                })
             } else {
                 None
             }
@@ -91,50 +128,41 @@ fn parameter_count(program: &Program, f: u32) -> u32
     }
 }
 
-/// Nothing is asked any more of the first register of a call; gives whether all of it was.
-fn leave_first(demanded: &mut Demanded, at: Call) -> bool
-    ensures less { IsLess demanded.old demanded.new }
-    ensures asked { result ≡ true → asked_of demanded.old at.thread.0 at.depth 0 ≡ Some true }
-{
-    match demanded.take_register(at, 0) {
-        Some(whole) => whole,
-        None => false,
-    }
-}
-
-/// Whether a start gives its thread's word to a parameter that has to be known. Nothing is asked of this any more then.
-fn is_argument_asked(
+/// Nothing is asked any more of the parameter to which a start gives its thread's word; gives what was.
+fn asked_argument(
     demanded: &mut Demanded,
     program: &Program,
     function: u32,
     at: Call,
     count: usize,
-) -> bool
+) -> Option<bool>
     ensures less { IsLess demanded.old demanded.new }
-    ensures asked { result ≡ true → AsksArgument program.now demanded.old function at count }
+    ensures asked { IfSome result (λ w. AsksArgument program.now demanded.old function at count w) }
 {
     if count == 0 || parameter_count(program, function) == 0 {
-        return false;
+        return None;
     }
-    leave_first(demanded, at)
+    demanded.take_register(at, 0)
 }
 
-/// The thread whose word a start gives to a parameter that has to be known, if it does so: its own. Nothing is asked of this any
-/// more then.
+/// The word that a start gives to a parameter that has to be known, whole or its bounds alone, if it does so: that of its own
+/// thread. Nothing is asked of this any more then.
 fn started(
     demanded: &mut Demanded,
     program: &Program,
     function: u32,
     at: Call,
     count: usize,
-) -> Option<usize>
+) -> Option<AskedWord>
     ensures less { IsLess demanded.old demanded.new }
-    ensures asked { IfSome result (λ u. (u ≡ at.thread.0) × AsksArgument program.now demanded.old function at count) }
+    ensures asked { IfSome result (λ u. (u.thread ≡ at.thread.0) × AsksArgument program.now demanded.old function at count u.whole) }
 {
-    if is_argument_asked(demanded, program, function, at, count) {
-        Some(at.thread.0 as usize)
-    } else {
-        None
+    match asked_argument(demanded, program, function, at, count) {
+        Some(whole) => Some(AskedWord {
+            thread: at.thread.0 as usize,
+            whole,
+        }),
+        None => None,
     }
 }
 
@@ -191,7 +219,7 @@ fn event_in(step: &Step) -> Option<Event>
     }
 }
 
-/// The thread whose word has to be known before an event, for what has to be known behind it, if there is one. Of a parameter that a
+/// The word of a thread that has to be known before an event, for what has to be known behind it, if there is one. Of a parameter that a
 /// start gives nothing is asked any more.
 fn asked_by(
     demanded: &mut Demanded,
@@ -201,11 +229,11 @@ fn asked_by(
     count: usize,
     event: &Event,
     number: usize,
-) -> Option<usize>
+) -> Option<AskedWord>
     ensures less { IsLess demanded.old demanded.new }
     ensures asked { IfSome result (λ u. (R : Reference) (d : Taken) (x : AnInstr) (step : AStep) (counts : ACounts) (m : Moment)
         → IsLiveStep R d program.now reference.now x step counts number m → IsCallOf m at
-        → step.kind ≡ kinds.Event event.now → counts.present ≡ count → AreMet (known_at R d (suc number)) demanded.old → IsMet (known_at R d number) (word_demand u true)) }
+        → step.kind ≡ kinds.Event event.now → counts.present ≡ count → AreMet (known_at R d (suc number)) demanded.old → IsWordMet (known_at R d number) u) }
 {
     if is_join(event.kind) {
         return joined(demanded, event);
@@ -216,7 +244,7 @@ fn asked_by(
     None
 }
 
-/// The thread whose word has to be known before a step, for what has to be known behind it, if there is one.
+/// The word of a thread that has to be known before a step, for what has to be known behind it, if there is one.
 fn asked_word(
     demanded: &mut Demanded,
     program: &Program,
@@ -225,11 +253,11 @@ fn asked_word(
     count: usize,
     step: &Step,
     number: usize,
-) -> Option<usize>
+) -> Option<AskedWord>
     ensures less { IsLess demanded.old demanded.new }
     ensures asked { IfSome result (λ u. (R : Reference) (d : Taken) (x : AnInstr) (counts : ACounts) (m : Moment)
         → IsLiveStep R d program.now reference.now x step.now counts number m → IsCallOf m at
-        → counts.present ≡ count → AreMet (known_at R d (suc number)) demanded.old → IsMet (known_at R d number) (word_demand u true)) }
+        → counts.present ≡ count → AreMet (known_at R d (suc number)) demanded.old → IsWordMet (known_at R d number) u) }
 {
     match event_in(step) {
         Some(e) => asked_by(demanded, program, reference, at, count, &e, number),
@@ -237,14 +265,14 @@ fn asked_word(
     }
 }
 
-/// The word of a thread doesn't have to be known any more; gives whether it had to be.
-fn leave_word(words: &mut Vec<bool>, thread: usize) -> bool
-    ensures was { result ≡ slice_index_or words.old.items thread false }
-    ensures rest { (u : ℕ) → slice_index_or words.new.items u false ≡ true → (slice_index_or words.old.items u false ≡ true) × (u ≡ thread → ⊥) }
+/// The word of a thread doesn't have to be known any more; gives what was asked of it.
+fn leave_word(words: &mut Vec<Option<bool>>, thread: usize) -> Option<bool>
+    ensures was { result ≡ slice_index_or words.old.items thread None }
+    ensures rest { (u : ℕ) (b : Bool) → slice_index_or words.new.items u None ≡ Some b → (slice_index_or words.old.items u None ≡ Some b) × (u ≡ thread → ⊥) }
 {
-    let was = mark_at(words, thread);
-    if was && thread < words.len() {
-        words[thread] = false;
+    let was = word_at(words, thread);
+    if was.is_some() && thread < words.len() {
+        words[thread] = None;
     }
     was
 }
@@ -258,7 +286,7 @@ fn first_of(values: &[Value]) -> Option<Value>
 
 /// What a thread's exit hands on, if it is an operand: main's `pthread_exit` hands on 0.
 fn exit_operand(op: &Op, thread: ThreadNo) -> Option<Value>
-    ensures { (s : SymbolicState) (k : ℕ) → AllByRecursion (IsMet s) (back_exit thread.0 k true op.now).demands → AllByRecursion (IsMet s) (of_optional thread.0 k true result) }
+    ensures { (s : SymbolicState) (k : ℕ) (w : Bool) → AllByRecursion (IsMet s) (back_exit thread.0 k w op.now).demands → AllByRecursion (IsMet s) (of_optional thread.0 k w result) }
 {
     match op {
         Op::Ret { value } => *value,
@@ -276,46 +304,46 @@ fn exit_operand(op: &Op, thread: ThreadNo) -> Option<Value>
 /// Back over an exit: where its thread's word has to be known, what it hands on has to be.
 fn leave_exit(
     demanded: &mut Demanded,
-    words: &mut Vec<bool>,
+    words: &mut Vec<Option<bool>>,
     at: Call,
     op: &Op,
 ) -> Result<(), AllocError>
-    ensures rest { (u : ℕ) → slice_index_or words.new.items u false ≡ true → (slice_index_or words.old.items u false ≡ true) × (u ≡ at.thread.0 → ⊥) }
-    ensures met { OnOk result ((s : SymbolicState) → (slice_index_or words.old.items at.thread.0 false ≡ true
-        → AllByRecursion (IsMet s) (back_exit at.thread.0 at.depth true op.now).demands)
+    ensures rest { (u : ℕ) (b : Bool) → slice_index_or words.new.items u None ≡ Some b → (slice_index_or words.old.items u None ≡ Some b) × (u ≡ at.thread.0 → ⊥) }
+    ensures met { OnOk result ((s : SymbolicState) → ((w : Bool) → slice_index_or words.old.items at.thread.0 None ≡ Some w
+        → AllByRecursion (IsMet s) (back_exit at.thread.0 at.depth w op.now).demands)
         → AreMet s demanded.old → AreMet s demanded.new) }
 {
-    if leave_word(words, at.thread.0 as usize) {
-        return put_optional(demanded, at, exit_operand(op, at.thread), true);
+    match leave_word(words, at.thread.0 as usize) {
+        Some(whole) => put_optional(demanded, at, exit_operand(op, at.thread), whole),
+        None => Ok(()),
     }
-    Ok(())
 }
 
 /// Back over a create, before which there are so many threads: where the word of the thread that it makes has to be known, the argument
 /// has to be.
 fn leave_created(
     demanded: &mut Demanded,
-    words: &mut Vec<bool>,
+    words: &mut Vec<Option<bool>>,
     at: Call,
     op: &Op,
     threads: usize,
 ) -> Result<(), AllocError>
-    ensures rest { (u : ℕ) → slice_index_or words.new.items u false ≡ true → (slice_index_or words.old.items u false ≡ true) × (u ≡ threads → ⊥) }
-    ensures met { OnOk result ((s : SymbolicState) → (slice_index_or words.old.items threads false ≡ true
-        → AllByRecursion (IsMet s) (of_operand at.thread.0 at.depth true op.now 3))
+    ensures rest { (u : ℕ) (b : Bool) → slice_index_or words.new.items u None ≡ Some b → (slice_index_or words.old.items u None ≡ Some b) × (u ≡ threads → ⊥) }
+    ensures met { OnOk result ((s : SymbolicState) → ((w : Bool) → slice_index_or words.old.items threads None ≡ Some w
+        → AllByRecursion (IsMet s) (of_operand at.thread.0 at.depth w op.now 3))
         → AreMet s demanded.old → AreMet s demanded.new) }
 {
-    if leave_word(words, threads) {
-        return put_argument(demanded, at, op, 3, true);
+    match leave_word(words, threads) {
+        Some(whole) => put_argument(demanded, at, op, 3, whole),
+        None => Ok(()),
     }
-    Ok(())
 }
 
 /// Back over an event, before which there are so many threads: a word that it sets needn't be known any more, and what it is set to has
 /// to be.
 fn leave_event(
     demanded: &mut Demanded,
-    words: &mut Vec<bool>,
+    words: &mut Vec<Option<bool>>,
     at: Call,
     op: &Op,
     kind: TurnKind,
@@ -341,7 +369,7 @@ fn leave_event(
 /// to be.
 fn leave_words(
     demanded: &mut Demanded,
-    words: &mut Vec<bool>,
+    words: &mut Vec<Option<bool>>,
     at: Call,
     op: &Op,
     step: &Step,
@@ -358,12 +386,15 @@ fn leave_words(
     }
 }
 
-/// The word of a thread that there may be has to be known.
-fn ask_word(words: &mut Vec<bool>, asked: Option<usize>)
-    ensures { (u : ℕ) → slice_index_or words.new.items u false ≡ true → (slice_index_or words.old.items u false ≡ true) ⊎ (asked ≡ Some u) }
+/// The word of a thread that there may be has to be known, whole or its bounds alone.
+fn ask_word(words: &mut Vec<Option<bool>>, asked: Option<AskedWord>)
+    ensures { (u : ℕ) (b : Bool) → slice_index_or words.new.items u None ≡ Some b
+        → (slice_index_or words.old.items u None ≡ Some b) ⊎ ((a : AnAskedWord) × (asked ≡ Some a) × (u ≡ a.thread) × (a.whole ≡ b)) }
 {
-    if let Some(thread) = asked {
-        set_mark(words, thread);
+    if let Some(word) = asked {
+        if word.whole || word_at(words, word.thread).is_none() {
+            set_word(words, word.thread, word.whole);
+        }
     }
 }
 
@@ -376,7 +407,7 @@ fn ask_word(words: &mut Vec<bool>, asked: Option<usize>)
 pub(crate) fn back_one(
     alloc: Global,
     demanded: &mut Demanded,
-    words: &mut Vec<bool>,
+    words: &mut Vec<Option<bool>>,
     decisions: &mut DecisionSet,
     program: &Program,
     instr: &Instr,

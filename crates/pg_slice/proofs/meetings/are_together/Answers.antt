@@ -13,4 +13,4 @@ interval_at-other_interval-requires c = let l = intervals_length c.args.trace.no
 pub returns : goal.returns
 returns c = λ q. are_together c.args.trace.now.steps c.args.intervals.now c.requires.intervals c.args.number c.args.other c.step-step.result c.step-other_step.result c.interval_at-interval.result c.interval_at-other_interval.result
     c.step-step.ensures c.step-other_step.ensures c.interval_at-interval.ensures.or_any c.interval_at-other_interval.ensures.or_any
-    (eq_false c.step-step.result.thread.0 c.step-other_step.result.thread.0 c.if-step-other_step.false) (sym c.overlap.ensures ∙ q)
+    (eq_false c.step-step.result.thread.0 c.step-other_step.result.thread.0 c.if-step-other_step.false) (sym c.overlap.ensures ∙ c.if-not-overlap.false)

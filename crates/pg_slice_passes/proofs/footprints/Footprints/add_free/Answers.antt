@@ -9,22 +9,23 @@ use Rattle.pg_slice_passes.specs.Footprints.{footprint_by}
 use Rattle.pg_slice_passes.proofs.AddedNodes.{each_region, same_some}
 use Rattle.pg_slice_passes.proofs.FootprintOrder.{adds_nothing}
 use Rattle.pg_slice_passes.proofs.RegionFootprints.{not_there, footprint_is, taken_out}
+use Rattle.pg_slice_passes.specs.Rows.{all_footprints, all_owners}
 use Rattle.pg_slice_passes.proofs.footprints.Footprints.add_free.Goals as goal
 
 pub returns-in_ok-note-clause-timed : goal.returns-in_ok-note-clause-timed
 returns-in_ok-note-clause-timed c = c.in_ok-note.ensures.timed
 
 pub returns-in_default-clause-timed : goal.returns-in_default-clause-timed
-returns-in_default-clause-timed c = adds_nothing c.args.at.now.step.now c.args.at.now.interval c.args.self.now
+returns-in_default-clause-timed c = adds_nothing c.args.at.now.step.now c.args.at.now.interval c.args.self.now c.requires.rows
 
 pub returns-in_ok-note-clause-footprints : goal.returns-in_ok-note-clause-footprints
 returns-in_ok-note-clause-footprints c =
     let k = c.args.k in
-    let old = c.args.self.now.footprints.items in
+    let old = (all_footprints c.args.self.now) in
     let given = c.in-Some.a in
     each_region (λ (f : FreeRegion). option_map access_as c.access.result ≡ slice_get f.accesses k)
     (λ (f : FreeRegion). (x : Seen) (a : FreeAccess) → IsTimed x c.args.at.now.step.now c.args.at.now.interval → slice_get f.accesses k ≡ Some a
-    → c.note.new.self.footprints.items ≡ old ++ footprint_by x a ∷ [])
+    → (all_footprints c.note.new.self) ≡ old ++ footprint_by x a ∷ [])
     (landmark_at c.args.at.now.r.now c.args.at.now.n)
     (λ f got x a t at.
     let e = taken_out access_as c.access.result given (slice_get f.accesses k) c.in-Some.is got in
@@ -37,13 +38,13 @@ pub returns-in_ok-note-clause-owners : goal.returns-in_ok-note-clause-owners
 returns-in_ok-note-clause-owners c =
     let k = c.args.k in
     each_region (λ (f : FreeRegion). option_map access_as c.access.result ≡ slice_get f.accesses k)
-    (λ (f : FreeRegion). (a : FreeAccess) → slice_get f.accesses k ≡ Some a → c.note.new.self.owners.items ≡ c.args.self.now.owners.items ++ c.args.owner ∷ [])
+    (λ (f : FreeRegion). (a : FreeAccess) → slice_get f.accesses k ≡ Some a → (all_owners c.note.new.self) ≡ (all_owners c.args.self.now) ++ c.args.owner ∷ [])
     (landmark_at c.args.at.now.r.now c.args.at.now.n) (λ f got a at. c.in_ok-note.ensures.owners) c.access.ensures.access
 
 pub returns-in_default-clause-footprints : goal.returns-in_default-clause-footprints
 returns-in_default-clause-footprints c =
     let k = c.args.k in
-    let old = c.args.self.now.footprints.items in
+    let old = (all_footprints c.args.self.now) in
     each_region (λ (f : FreeRegion). option_map access_as c.access.result ≡ slice_get f.accesses k)
     (λ (f : FreeRegion). (x : Seen) (a : FreeAccess) → IsTimed x c.args.at.now.step.now c.args.at.now.interval → slice_get f.accesses k ≡ Some a → old ≡ old ++ footprint_by x a ∷ [])
     (landmark_at c.args.at.now.r.now c.args.at.now.n) (λ f got x a t at. absurd (not_there access_as c.access.result (slice_get f.accesses k) a c.in_default.is got at)) c.access.ensures.access
@@ -51,7 +52,7 @@ returns-in_default-clause-footprints c =
 pub returns-in_default-clause-owners : goal.returns-in_default-clause-owners
 returns-in_default-clause-owners c =
     let k = c.args.k in
-    let old = c.args.self.now.owners.items in
+    let old = (all_owners c.args.self.now) in
     each_region (λ (f : FreeRegion). option_map access_as c.access.result ≡ slice_get f.accesses k)
     (λ (f : FreeRegion). (a : FreeAccess) → slice_get f.accesses k ≡ Some a → old ≡ old ++ c.args.owner ∷ [])
     (landmark_at c.args.at.now.r.now c.args.at.now.n) (λ f got a at. absurd (not_there access_as c.access.result (slice_get f.accesses k) a c.in_default.is got at)) c.access.ensures.access
