@@ -12,7 +12,8 @@ use pg_worker::{Shared, Worker};
 use std::marker::Model;
 use std::thread::Threads;
 
-/// The least number of steps of a recording from which on host threads pay: to start them costs about as much as so many steps.
+/// The least number of steps of a recording from which on its runs get host threads. Where two workers share the steps, host threads
+/// were measured to pay from about half as many on.
 pub const LONG_RUN: u64 = 20_000;
 
 /// Runs each worker in a host thread of its own where a long run is expected, of `LONG_RUN` steps at least, and one after another in

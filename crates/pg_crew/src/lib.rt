@@ -1,4 +1,5 @@
 //! Crews: who runs the workers of a run, round by round, in one host thread or in several.
+// How goals are searched for: see docs/CONTRIBUTING.md.
 #![tactic(auto)]
 
 mod by_length;
@@ -13,5 +14,5 @@ pub use crew::Crew;
 pub use hooks::AnyHook;
 pub use one_by_one::OneByOne;
 pub use pg_worker;
-pub use pg_worker::{pg_ir, pg_num, pg_run, pg_run_trace, pg_seats};
+pub use pg_worker::{Hook, pg_ir, pg_num, pg_run, pg_run_trace, pg_seats};
 pub use together::Together;

@@ -69,8 +69,7 @@ pub(crate) fn counted_round(
 impl Crew for OneByOne {
     ghost turns = { λ c. c };
 
-    fn round<R: Threads + Sync>(&mut self, rt: &R, shared: &Shared<'_>, workers: &mut [Worker]) {
-        let _rt = rt;
+    fn round<R: Threads + Sync>(&mut self, _rt: &R, shared: &Shared<'_>, workers: &mut [Worker]) {
         self.turns = counted_round(self.hooks.as_slice(), self.turns, shared, workers);
     }
 
@@ -82,7 +81,5 @@ impl Crew for OneByOne {
         OneByOne::new(Vec::new(*self.hooks.allocator()))
     }
 
-    fn expect(&mut self, steps: u64) {
-        let _steps = steps;
-    }
+    fn expect(&mut self, _steps: u64) {}
 }

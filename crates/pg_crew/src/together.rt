@@ -100,7 +100,5 @@ impl Crew for Together {
         Together::new(Vec::new(*self.hooks.allocator()))
     }
 
-    fn expect(&mut self, steps: u64) {
-        let _steps = steps;
-    }
+    fn expect(&mut self, _steps: u64) {}
 }

@@ -1,5 +1,6 @@
 //! Recordings in any order of the threads: each thread of a program has a worker that takes its steps, and all steps are those of
 //! one machine under a lock.
+// How goals are searched for: see docs/CONTRIBUTING.md.
 #![tactic(auto)]
 
 mod crew;

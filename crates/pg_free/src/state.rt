@@ -164,7 +164,7 @@ impl<'a> FreeState<'a> {
                 return;
             }
         }
-        // Read for the proof's sake: no list of steps is longer than a recording.
+        // Called for the proof: see docs/CONTRIBUTING.md. No list of steps is longer than a recording.
         let _left = self.trace.room_left();
     }
 

@@ -4,7 +4,6 @@ mod LaidGranules
 mod SweptGranules
 mod OwnedTurns
 mod WrittenGranules
-mod PageMarks
 mod SeatLists
 mod TurnOwners
 pub use Rattle.pg_crew.proofs as of_pg_crew

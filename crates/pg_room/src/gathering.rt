@@ -7,8 +7,8 @@ ghost use Rattle.pg_crew.specs.pg_worker.Pages.{is_marked};
 ghost use Rattle.pg_crew.specs.pg_worker.Standing.{run_in, table_in};
 ghost use Rattle.pg_crew.specs.Workers.{AreWorkers};
 
-use crate::written::Written;
 use pg_crew::pg_seats::{Place, end};
+use pg_crew::pg_worker::pages::Pages;
 use pg_crew::pg_worker::{Shared, Worker};
 
 /// Takes back the seats of all workers, and marks the pages that they wrote. Takes no memory.
@@ -16,7 +16,7 @@ pub(crate) fn gather_all(
     shared: &Shared<'_>,
     pool: &mut Place,
     workers: Vec<Worker>,
-    written: &mut Written,
+    written: &mut Pages,
 )
     requires own { pool.old.table_id ≡ table_in shared.now }
     requires view { pool.old.me ≡ (Pool (run_in shared.now) (length workers.items) 0, []) }

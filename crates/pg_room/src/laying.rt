@@ -7,10 +7,10 @@ ghost use Rattle.pg_crew.specs.pg_run_memory.Initial.{initial_byte};
 ghost use Rattle.pg_crew.specs.pg_worker.Standing.{run_in, table_in};
 ghost use Rattle.pg_room.specs.Laying.{BeginsWith, IsLaidBelow, granules_of};
 
-use crate::written::Written;
 use pg_crew::pg_num::Place as Range;
 use pg_crew::pg_seats::{Place, begin};
 use pg_crew::pg_worker::Shared;
+use pg_crew::pg_worker::pages::Pages;
 
 /// The number of eight bytes of a list from an index on, low byte first; those past its end are 0.
 fn word_at(bytes: &[u8], from: usize) -> u64
@@ -38,7 +38,7 @@ fn byte_at(bytes: &[u8], index: usize) -> u8
 }
 
 /// Lays a granule of a global's first bytes, and marks its page.
-fn lay_granule(shared: &Shared<'_>, pool: &mut Place, laid: &mut Written, granule: u32, word: u64)
+fn lay_granule(shared: &Shared<'_>, pool: &mut Place, laid: &mut Pages, granule: u32, word: u64)
     requires own { pool.old.table_id ≡ table_in shared.now }
     requires before { IsLaidBelow (run_in shared.now) granule pool.old.me laid.old.words.items }
     requires inside { granule < GRANULE_COUNT }
@@ -52,7 +52,7 @@ fn lay_granule(shared: &Shared<'_>, pool: &mut Place, laid: &mut Written, granul
 }
 
 /// Lays the granules that hold a global's first bytes, and marks their pages.
-fn lay_global(shared: &Shared<'_>, pool: &mut Place, laid: &mut Written, start: u32, bytes: &[u8])
+fn lay_global(shared: &Shared<'_>, pool: &mut Place, laid: &mut Pages, start: u32, bytes: &[u8])
     requires own { pool.old.table_id ≡ table_in shared.now }
     requires before { IsLaidBelow (run_in shared.now) start pool.old.me laid.old.words.items }
     requires inside { start + granules_of bytes.now ≤ GRANULE_COUNT }
@@ -67,7 +67,7 @@ fn lay_global(shared: &Shared<'_>, pool: &mut Place, laid: &mut Written, start: 
 }
 
 /// Lays the first bytes of all globals, one after another.
-pub(crate) fn lay_globals(shared: &Shared<'_>, pool: &mut Place, laid: &mut Written)
+pub(crate) fn lay_globals(shared: &Shared<'_>, pool: &mut Place, laid: &mut Pages)
     requires own { pool.old.table_id ≡ table_in shared.now }
     requires before { IsLaidBelow (run_in shared.now) 1 pool.old.me laid.old.words.items }
     ensures own { (pool.new.table_id ≡ pool.old.table_id) × (pool.new.id ≡ pool.old.id) }

@@ -1,5 +1,6 @@
 //! A room: shared words that serve one run after another. A run is made ready in it, with a worker for each of its threads, and behind
 //! the run the words that it wrote are made 0 again.
+// How goals are searched for: see docs/CONTRIBUTING.md.
 #![tactic(auto)]
 
 mod gathering;
@@ -11,7 +12,6 @@ mod resting;
 mod room;
 mod sweeping;
 mod threads;
-mod written;
 
 pub use parts::Ready;
 pub use pg_crew;
@@ -19,4 +19,3 @@ pub use pg_crew::{pg_ir, pg_num, pg_run, pg_run_trace, pg_worker};
 pub use ready::prepare_in;
 pub use resting::rest;
 pub use room::{NotPrepared, Room};
-pub use written::Written;

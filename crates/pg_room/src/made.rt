@@ -1,7 +1,7 @@
 //! What a run takes memory for.
 
-use crate::written::Written;
 use pg_crew::pg_run::Gated;
+use pg_crew::pg_worker::pages::Pages;
 use pg_crew::pg_worker::{Unseated, Worker};
 
 /// What a run takes memory for: its threads, room for as many workers, a mark for each page, and one for each load and store that is
@@ -10,6 +10,6 @@ use pg_crew::pg_worker::{Unseated, Worker};
 pub(crate) struct Threads {
     pub(crate) threads: Vec<Unseated>,
     pub(crate) workers: Vec<Worker>,
-    pub(crate) laid: Written,
+    pub(crate) laid: Pages,
     pub(crate) gated: Gated,
 }

@@ -1,7 +1,7 @@
 //! What a run that is made ready consists of.
 
-use crate::written::Written;
 use pg_crew::pg_seats::Place;
+use pg_crew::pg_worker::pages::Pages;
 use pg_crew::pg_worker::{Shared, Worker};
 
 /// A run that is made ready: what its workers share, a worker for each of its threads, the seat from which theirs were split off, and
@@ -11,5 +11,5 @@ pub struct Ready<'a> {
     pub shared: Shared<'a>,
     pub workers: Vec<Worker>,
     pub pool: Place,
-    pub laid: Written,
+    pub laid: Pages,
 }

@@ -7,13 +7,12 @@ ghost use Rattle.pg_crew.specs.pg_worker.declared.pages.TheConstants.{PAGE_COUNT
 ghost use Rattle.pg_crew.specs.pg_worker.Standing.{run_in, table_in};
 ghost use Rattle.pg_room.specs.Sweeping.{AreWritten, IsSweptBelow};
 
-use crate::written::Written;
 use pg_crew::pg_ir::ThreadNo;
 use pg_crew::pg_num::Place as Range;
 use pg_crew::pg_num::limits::THREAD_LIMIT;
 use pg_crew::pg_seats::{Place, end};
 use pg_crew::pg_worker::Shared;
-use pg_crew::pg_worker::pages::PAGE_WORDS;
+use pg_crew::pg_worker::pages::{PAGE_WORDS, Pages};
 
 /// The granules of a page.
 const PAGE_GRANULES: u32 = 64;
@@ -56,7 +55,7 @@ fn wipe_page(shared: &Shared<'_>, pool: &mut Place, page: u32)
 }
 
 /// Makes the granules of a page 0 again, if it is marked.
-fn sweep_page(shared: &Shared<'_>, pool: &mut Place, written: &Written, page: u32)
+fn sweep_page(shared: &Shared<'_>, pool: &mut Place, written: &Pages, page: u32)
     requires own { pool.old.table_id ≡ table_in shared.now }
     requires before { IsSweptBelow (run_in shared.now) (PAGE_GRANULES * page) pool.old.me }
     requires inside { page < PAGE_COUNT }
@@ -72,7 +71,7 @@ fn sweep_page(shared: &Shared<'_>, pool: &mut Place, written: &Written, page: u3
 }
 
 /// Makes the granules of those of 64 pages 0 again that are marked, whose marks are a word.
-fn sweep_word(shared: &Shared<'_>, pool: &mut Place, written: &Written, index: u32)
+fn sweep_word(shared: &Shared<'_>, pool: &mut Place, written: &Pages, index: u32)
     requires own { pool.old.table_id ≡ table_in shared.now }
     requires before { IsSweptBelow (run_in shared.now) (PAGE_GRANULES * (64 * index)) pool.old.me }
     requires inside { index < PAGE_WORDS }
@@ -90,7 +89,7 @@ fn sweep_word(shared: &Shared<'_>, pool: &mut Place, written: &Written, index: u
 }
 
 /// Makes the granules of all marked pages 0 again.
-pub(crate) fn sweep(shared: &Shared<'_>, pool: &mut Place, written: &Written)
+pub(crate) fn sweep(shared: &Shared<'_>, pool: &mut Place, written: &Pages)
     requires own { pool.old.table_id ≡ table_in shared.now }
     requires before { IsSweptBelow (run_in shared.now) 0 pool.old.me }
     requires written { AreWritten (run_in shared.now) written.now.words.items }

@@ -6,12 +6,12 @@ ghost use Rattle.pg_crew.specs.pg_law_runs.Deeds.{owners_of};
 ghost use Rattle.pg_room.specs.Threads.{AreThreads, AreUnseated};
 
 use crate::made::Threads;
-use crate::written::Written;
 use pg_crew::pg_ir::{Program, ThreadNo};
 use pg_crew::pg_num::limits::THREAD_LIMIT;
 use pg_crew::pg_run::Gated;
 use pg_crew::pg_run_trace::{Schedule, Turn};
 use pg_crew::pg_worker::Unseated;
+use pg_crew::pg_worker::pages::Pages;
 use std::alloc::{AllocError, Global};
 
 /// So many threads, or more where one of them is this one. Those past the limit don't count.
@@ -68,11 +68,12 @@ fn unseated(
 pub(crate) fn threads_of(alloc: Global, p: &Program, s: &Schedule) -> Result<Threads, AllocError>
     ensures { IfOk result (AreThreads p.now s.now) }
 {
+    // Called for the proof: see docs/CONTRIBUTING.md.
     let _turns = s.turns.as_slice().len();
     let count = thread_count(s.turns.as_slice());
     let threads = unseated(alloc, p, s, count)?;
     let workers = Vec::with_capacity(alloc, count as usize)?;
-    let laid = Written::new(alloc)?;
+    let laid = Pages::new(alloc)?;
     let gated = Gated::new(alloc, p, s.gated.as_slice())?;
     Ok(Threads {
         threads,

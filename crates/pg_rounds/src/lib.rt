@@ -1,5 +1,6 @@
 //! Runs along a schedule by workers, round by round: what such a run prints, how it ends, and how many turns it does are those of the
 //! guided run.
+// How goals are searched for: see docs/CONTRIBUTING.md.
 #![tactic(auto)]
 
 mod ended;

@@ -15,6 +15,7 @@ pub fn load(words: &RunWords, seat: &mut Place, at: Range) -> u64
     ensures view { seat.new.me ≡ (went_on seat.old.me.0, seat.old.me.1) }
     ensures value { result ≡ number_there seat.old.me.0 at }
 {
+    // Called for the proof: see docs/CONTRIBUTING.md.
     let _start = at.start();
     words.load::<Loads>(seat, at)
 }
@@ -28,6 +29,7 @@ pub fn load_due(words: &RunWords, seat: &mut Place, at: Range) -> u64
     ensures view { seat.new.me ≡ seat.old.me }
     ensures value { result ≡ number_there seat.old.me.0 at }
 {
+    // Called for the proof: see docs/CONTRIBUTING.md.
     let _start = at.start();
     words.load::<Reads>(seat, at)
 }
@@ -41,6 +43,7 @@ pub fn store(words: &RunWords, seat: &mut Place, at: Range, number: u64)
     ensures own { (seat.new.table_id ≡ seat.old.table_id) × (seat.new.id ≡ seat.old.id) }
     ensures view { seat.new.me ≡ (went_on seat.old.me.0, seat.old.me.1) }
 {
+    // Called for the proof: see docs/CONTRIBUTING.md.
     let _start = at.start();
     if at.bytes() == 8 {
         words.store::<Stores>(seat, at, number);
@@ -58,6 +61,7 @@ pub fn store_due(words: &RunWords, seat: &mut Place, at: Range, number: u64)
     ensures own { (seat.new.table_id ≡ seat.old.table_id) × (seat.new.id ≡ seat.old.id) }
     ensures view { seat.new.me ≡ (with_part seat.old.me.0, seat.old.me.1) }
 {
+    // Called for the proof: see docs/CONTRIBUTING.md.
     let _start = at.start();
     if at.bytes() == 8 {
         words.store::<Puts>(seat, at, number);

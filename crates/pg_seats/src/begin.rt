@@ -75,6 +75,7 @@ pub fn lay(words: &RunWords, seat: &mut Place, granule: Range, word: u64)
     ensures own { (seat.new.table_id ≡ seat.old.table_id) × (seat.new.id ≡ seat.old.id) }
     ensures view { seat.new.me ≡ (laid seat.old.me.0 (granule.start / 8), seat.old.me.1) }
 {
+    // Called for the proof: see docs/CONTRIBUTING.md.
     let _granule = granule.granule();
     words.store::<Lays>(seat, granule, word);
 }

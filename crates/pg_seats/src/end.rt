@@ -53,6 +53,7 @@ pub fn wipe(words: &RunWords, pool: &mut Place, granule: Range)
     ensures own { (pool.new.table_id ≡ pool.old.table_id) × (pool.new.id ≡ pool.old.id) }
     ensures view { pool.new.me ≡ (swept pool.old.me.0 (granule_word granule), pool.old.me.1) }
 {
+    // Called for the proof: see docs/CONTRIBUTING.md.
     let _granule = granule.granule();
     words.store::<Wipes>(pool, granule, 0);
 }

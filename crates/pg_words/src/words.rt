@@ -196,6 +196,7 @@ fn zeros(alloc: Global, count: usize) -> Result<Vec<u64>, AllocError>
     ensures length { IfOk result (λ v. length v.items ≡ count) }
     ensures zeros { IfOk result (λ v. (i : ℕ) → slice_index v.items i ≡ 0) }
 {
+    // In two lines for the proof: see docs/CONTRIBUTING.md.
     let words = Vec::from_elem(alloc, 0u64, count)?;
     Ok(words)
 }

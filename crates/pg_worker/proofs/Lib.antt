@@ -1,4 +1,5 @@
 mod PageMarks
+mod AddedMarks
 mod NamedStarts
 mod MainCreates
 mod StepLeaves

@@ -48,7 +48,7 @@ within q words place wide = (let a = place.in_memory in let b = IsPlace-some q p
 
 -- ---- a mark as it is made
 
-word_there : (words : List ℕ) (i n : ℕ) → i < length words → n ≡ get_or words i n → n ≡ slice_index words i
+pub word_there : (words : List ℕ) (i n : ℕ) → i < length words → n ≡ get_or words i n → n ≡ slice_index words i
 word_there words i n lt e = e ∙ sym (get_or_from_slice_get words i (get_or words i n) 0 (slice_get-get_or words i n lt))
 
 module _ (q : ByteRange) (words : List ℕ) (start n : ℕ) (place : IsPlace q) (wide : length words ≡ 1024) (same : start ≡ q.start) (there : n ≡ get_or words (start / 512 / 64) n) where

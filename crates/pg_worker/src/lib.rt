@@ -1,5 +1,6 @@
 //! Workers: each runs one thread of a program along a schedule over words that it shares with the others, freely between its turns.
 //! A worker's own state is what the full guided run has for its thread behind the worker's steps so far.
+// How goals are searched for: see docs/CONTRIBUTING.md.
 #![tactic(auto)]
 
 mod awaits;

@@ -1,4 +1,4 @@
-//! The pages of memory that a worker wrote, so that they can be swept behind its run.
+//! The pages of memory that a run wrote, so that they can be swept behind it.
 
 ghost use Rattle.std.specs.Prelude.{◌≡◌, ◌<◌, ◌/◌, ℕ, length, true, false, IfOk, slice_index};
 ghost use Rattle.pg_seats.specs.pg_num.Places.{IsPlace};
@@ -34,13 +34,23 @@ impl Pages {
     }
 
     /// Marks the page of a range of memory.
-    pub(crate) fn mark(&mut self, at: Range)
+    pub fn mark(&mut self, at: Range)
         ensures place { IsPlace at }
         ensures marked { is_marked self.new.words.items (page_of at.start) ≡ true }
         ensures kept { (page : ℕ) → is_marked self.old.words.items page ≡ true → is_marked self.new.words.items page ≡ true }
     {
         let page = at.start() / 512;
         self.words[(page / 64) as usize] |= 1 << (page % 64);
+    }
+
+    /// Marks the pages that are marked there too.
+    pub fn add(&mut self, other: &Pages)
+        ensures kept { (page : ℕ) → is_marked self.old.words.items page ≡ true → is_marked self.new.words.items page ≡ true }
+        ensures added { (page : ℕ) → is_marked other.now.words.items page ≡ true → is_marked self.new.words.items page ≡ true }
+    {
+        for index in 0..PAGE_WORDS {
+            self.words[index as usize] |= other.word(index);
+        }
     }
 
     /// Whether a page is marked.

@@ -37,6 +37,7 @@ impl Worker {
         ensures at { IsAt (run_in shared.now) (table_in shared.now) 0 self.new }
         ensures done { HasDone (run_in shared.now) result self.old self.new }
     {
+        // Called for the proof: see docs/CONTRIBUTING.md.
         let _turn = self.next_turn();
         if !self.comes(shared) {
             return Taken::Waits;

@@ -126,6 +126,7 @@ impl Worker {
         ensures at { IsAt (run_in shared.now) (table_in shared.now) 0 self.new }
         ensures took { TookTurn self.old self.new }
     {
+        // Called for the proof: see docs/CONTRIBUTING.md.
         let _turn = self.next_turn();
         self.keep(&action);
         turns::advance(&shared.words, &mut self.seat);

@@ -67,6 +67,7 @@ impl Unseated {
         ensures at { IsAt (run_in shared.now) (table_in shared.now) 0 result }
         ensures first { (result.thread ≡ self.thread) × (result.done ≡ 0) }
     {
+        // Read for the proof: see docs/CONTRIBUTING.md.
         let _shared = shared;
         let Unseated {
             fiber,

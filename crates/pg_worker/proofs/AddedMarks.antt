@@ -1,12 +1,11 @@
--- Marks of pages, as bits of words, and marks that are added to others.
-use Rattle.std.proofs.Common.{◌≡◌, ℕ, zero, suc, ◌+◌, ◌*◌, ◌/◌, ◌%◌, ◌^◌, ◌<◌, ◌≤◌, ◌⊎◌, inl, inr, List, length, length-set, get_or, replicate, Bool, true, false, refl, sym, ◌∙◌, ap, arith}
+-- Marks of pages that are added to others.
+use Rattle.std.proofs.Common.{◌≡◌, ℕ, ◌+◌, ◌/◌, ◌%◌, ◌<◌, ◌≤◌, ◌⊎◌, inl, inr, List, length, length-set, get_or, Bool, true, false, refl, sym, ◌∙◌, ap, arith}
 use Rattle.std.specs.Prelude.{◌==◌, bit_or, slice_index, slice_set}
-use Rattle.std.specs.Int.{bit_at, w64}
+use Rattle.std.specs.Int.{bit_at}
 use Rattle.std.proofs.lemmas.Bool.{cases_lt, eq-eqb, eqb-false, eqb-true}
 use Rattle.std.proofs.lemmas.List.{get_or-set_other, get_or-set_same, get_or_past}
-use Rattle.std.proofs.lemmas.Option.{get_or_from_slice_get, slice_get-get_or}
-use Rattle.std.proofs.lemmas.Nat.Bits.{bit_at-lt, bit_at-zero, bit_at_or, bit_at_set_same}
-use Rattle.pg_crew.specs.pg_worker.Pages.{is_marked}
+use Rattle.std.proofs.lemmas.Nat.Bits.{bit_at-lt, bit_at-zero, bit_at_or}
+use Rattle.pg_worker.specs.Pages.{is_marked}
 
 -- the marks of the first words of others are added
 pub record AreAdded (old other : List ℕ) (n : ℕ) (new : List ℕ) : Type 0 where
@@ -16,9 +15,6 @@ pub record AreAdded (old other : List ℕ) (n : ℕ) (new : List ℕ) : Type 0 w
 
 pub none_added : (old other : List ℕ) → length old ≡ 1024 → AreAdded old other 0 old
 none_added old other wide = record { wide = wide; kept = λ page e. e; added = λ page lt e. absurd (omega (arith, lt)) }
-
-pub word_there : (words : List ℕ) (i n : ℕ) → i < length words → n ≡ get_or words i n → n ≡ slice_index words i
-word_there words i n lt e = e ∙ sym (get_or_from_slice_get words i (get_or words i n) 0 (slice_get-get_or words i n lt))
 
 either_bit : (a b k : ℕ) → ((bit_at a k == 1) ≡ true) ⊎ ((bit_at b k == 1) ≡ true) → (bit_at (bit_or a b) k == 1) ≡ true
 either_bit a b k (inl e) =
@@ -65,38 +61,6 @@ module _ (old other : List ℕ) (n : ℕ) (new : List ℕ) (h : AreAdded old oth
         where
           below : (page / 64 ≡ n → ⊥) → page / 64 < n
           below ne = omega (arith, lt, ne)
-
--- ---- one mark, and none
-
--- the words with one mark more
-module _ (words : List ℕ) (i k : ℕ) (lt : i < length words) (n : ℕ) (is : n ≡ slice_index words i) where
-  abbrev with_mark : List ℕ
-  with_mark = slice_set words i (bit_or n (1 * 2 ^ k % 2 ^ 64))
-
-  pub mark_made : (page : ℕ) → page / 64 ≡ i → page % 64 ≡ k → is_marked with_mark page ≡ true
-  mark_made page q m =
-      ap (λ (w : ℕ). bit_at w (page % 64) == 1) (ap (λ (j : ℕ). get_or with_mark j 0) q ∙ get_or-set_same words i (bit_or n (1 * 2 ^ k % 2 ^ 64)) 0 lt)
-      ∙ ap (λ (j : ℕ). bit_at (bit_or n (1 * 2 ^ k % 2 ^ 64)) j == 1) m
-      ∙ ap (λ (b : ℕ). b == 1) (bit_at_set_same w64 n k (let few : page % 64 < 64 = omega arith in omega (arith, m, few)))
-
-  pub marks_kept : (page : ℕ) → is_marked words page ≡ true → is_marked with_mark page ≡ true
-  marks_kept page e = go (page / 64 == i) refl
-    where
-      go : (b : Bool) → (page / 64 == i) ≡ b → is_marked with_mark page ≡ true
-      go false q = ap (λ (w : ℕ). bit_at w (page % 64) == 1) (get_or-set_other words i (page / 64) (bit_or n (1 * 2 ^ k % 2 ^ 64)) 0 (eqb-false (page / 64) i q)) ∙ e
-      go true q =
-          let same : page / 64 ≡ i = eqb-true (page / 64) i q in
-          ap (λ (w : ℕ). bit_at w (page % 64) == 1) (ap (λ (j : ℕ). get_or with_mark j 0) same ∙ get_or-set_same words i (bit_or n (1 * 2 ^ k % 2 ^ 64)) 0 lt)
-          ∙ either_bit n (1 * 2 ^ k % 2 ^ 64) (page % 64) (inl (ap (λ (w : ℕ). bit_at w (page % 64) == 1) (is ∙ ap (slice_index words) (sym same)) ∙ e))
-
-zero_at : (n i : ℕ) → slice_index (replicate n 0) i ≡ 0
-zero_at zero i = refl
-zero_at (suc n) zero = refl
-zero_at (suc n) (suc i) = zero_at n i
-
-pub none_marked : (n page : ℕ) (words : List ℕ) → words ≡ replicate n 0 → is_marked words page ≡ false
-none_marked n page words e =
-    ap (λ (ws : List ℕ). is_marked ws page) e ∙ ap (λ (w : ℕ). bit_at w (page % 64) == 1) (zero_at n (page / 64)) ∙ ap (λ (b : ℕ). b == 1) (bit_at-zero (page % 64))
 
 -- ---- words of marks behind their end
 
