@@ -1,4 +1,5 @@
 //! The program: its command line, its standard input and output, and the files of the system.
+// How goals are searched for: see docs/CONTRIBUTING.md.
 #![tactic(auto)]
 
 ghost use Rattle.std.specs.Prelude.{◌≡◌};

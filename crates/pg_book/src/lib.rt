@@ -1,6 +1,7 @@
 //! A book: what is kept of a session's entries, as JSON.
 //!
 //! Every entry of a book is derived anew by whoever loads it, so nothing of the file is trusted.
+// How goals are searched for: see docs/CONTRIBUTING.md.
 #![tactic(auto)]
 
 mod book;

@@ -11,12 +11,14 @@ use pg_run_trace::Turn;
 fn id_is_ranged(id: InstrId)
     ensures { IsIdInRange id }
 {
+    // Read for the proof: see docs/CONTRIBUTING.md.
     let _number = id.0;
 }
 
 fn turn_is_ranged(turn: Turn)
     ensures { IsTurnInRange turn }
 {
+    // Read for the proof: see docs/CONTRIBUTING.md.
     let _number = turn.instr.0;
     let _object = turn.object;
 }
@@ -34,6 +36,7 @@ impl Ranged for i64 {
     ghost range = { IsSigned };
 
     fn is_ranged(&self) {
+        // Read for the proof: see docs/CONTRIBUTING.md.
         let _number = *self;
     }
 }

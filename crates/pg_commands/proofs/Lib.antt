@@ -10,6 +10,7 @@ pub mod CommandEnds
 pub mod CrewCounts
 pub mod OnceEnds
 pub mod ShowEnds
+pub mod ConditionsEnds
 pub mod TrialEnds
 pub mod WrittenEnds
 pub mod DueStatuses

@@ -16,7 +16,7 @@ use Rattle.pg_session_book.specs.Entries.{EntryParts}
 use Rattle.pg_session_book.specs.Runs.{entry_admits, runs_by}
 use Rattle.pg_commands.specs.declared.status.Status.{Status}
 use Rattle.pg_commands.specs.declared.status.Status.TheVariants.{BookRefused, Done, ProgramRefused, ReadFault, WriteFault, InputLimit, OutOfMemory}
-use Rattle.pg_commands.specs.Commands.{Begins, CrewsMake, DueOfBook, DueOfInput, DueOfLines, EndsAs, Fetched, IsBookLine, IsDue, IsProgram, ServesFrom, ServesMaking, SessionMakes, World, session_way}
+use Rattle.pg_commands.specs.Commands.{Begins, CrewsMake, DueOfBook, DueOfInput, DueOfLines, EndsAs, Fetched, IsBookLine, IsDue, IsProgram, ServesFrom, ServesMaking, SessionMakes, World, reply_form, session_way}
 use Rattle.pg_commands.specs.Replies.{IsWritten}
 use Rattle.pg_commands.specs.Sessions.{ServesAFront, SessionEnds}
 use Rattle.pg_commands.specs.Statuses.{session_status}
@@ -89,27 +89,27 @@ module _ (w : World) (file : Word) (way : RecordingWay) (named : Option Word) (o
         program_due w file (DueOfBook w named (DueOfLines w)) p status f (book_due apart w named p first status begun (lines_due w status P s each))
 
     serve_done : w.source.reads_after ≡ w.source.reads_before → w.sink.writes_after ≡ w.sink.writes_before
-        → HasBytes w.source.rest_before (ServesMaking (CrewsMake (SessionMakes way only w.crew) w.workers) p (session_way way only) first w.sink.taken_before w.sink.taken_after) → EndsAs w session Done
+        → HasBytes w.source.rest_before (ServesMaking (reply_form json) (CrewsMake (SessionMakes way only w.crew) w.workers) p (session_way way only) first w.sink.taken_before w.sink.taken_after) → EndsAs w session Done
     serve_done reads writes served =
         ends_as w session Done (from _ served) (none_failed w Done fetches reads writes) takes crews
         (λ n. due Done _ served (λ input s. ((λ h. inl refl), (λ h. let t = s.all.within in absurd (omega (arith, h, t))))))
 
     serve_limit : w.source.reads_after ≡ w.source.reads_before → w.sink.writes_after ≡ w.sink.writes_before
-        → HasBytes w.source.rest_before (ServesLimit entry_admits (runs_by p (session_way way only)) first w.sink.taken_before w.sink.taken_after) → EndsAs w session InputLimit
+        → HasBytes w.source.rest_before (ServesLimit (reply_form json) entry_admits (runs_by p (session_way way only)) first w.sink.taken_before w.sink.taken_after) → EndsAs w session InputLimit
     serve_limit reads writes served =
         ends_as w session InputLimit (from _ served) (none_failed w InputLimit fetches reads writes) takes crews
         (λ n. due InputLimit _ served (λ input s. ((λ h. let t = s.beyond in absurd (omega (arith, h, t))), (λ h. inl refl))))
 
     serve_unread : Rose w.source.reads_before w.source.reads_after → w.sink.writes_after ≡ w.sink.writes_before
         → TakesAtMost w.source.rest_before w.source.rest_after SESSION_INPUT_LIMIT
-        → ServesTaken entry_admits (runs_by p (session_way way only)) first w.source.rest_before w.source.rest_after w.sink.taken_before w.sink.taken_after → EndsAs w session ReadFault
+        → ServesTaken (reply_form json) entry_admits (runs_by p (session_way way only)) first w.source.rest_before w.source.rest_after w.sink.taken_before w.sink.taken_after → EndsAs w session ReadFault
     serve_unread rose writes within served =
         ends_as w session ReadFault (rose, within, from _ served)
         (record { fetches = λ name. inr (fetches name); reads = inl refl; writes = inr writes }) takes crews (λ n. absurd (n.reads tt rose))
 
     -- a front of the replies
     abbrev Front : Type 0
-    Front = ServesAFront p (session_way way only) first w.source w.sink
+    Front = ServesAFront (reply_form json) p (session_way way only) first w.source w.sink
 
     serve_cut : w.source.reads_after ≡ w.source.reads_before → Rose w.sink.writes_before w.sink.writes_after → Front → EndsAs w session WriteFault
     serve_cut reads rose served =
@@ -123,7 +123,7 @@ module _ (w : World) (file : Word) (way : RecordingWay) (named : Option Word) (o
 
     -- ---- which ended so
 
-    pub serve_ended : (r : Result (Unit {0}) ServeFault) → SessionEnds (CrewsMake (SessionMakes way only w.crew) w.workers) p (session_way way only) first w.source w.sink r
+    pub serve_ended : (r : Result (Unit {0}) ServeFault) → SessionEnds (reply_form json) (CrewsMake (SessionMakes way only w.crew) w.workers) p (session_way way only) first w.source w.sink r
         → EndsAs w session (session_status r)
     serve_ended (Ok done) h = serve_done (stayed _ _ _ (λ e. cc) h.read_count) (stayed _ _ _ (λ e. cc) h.write_count) h.done
     serve_ended (Err fault.ReadFault) h = serve_unread (h.read_cause refl) (stayed _ _ _ (λ e. cc) h.write_count) (h.read_within refl) (h.read_fault refl)

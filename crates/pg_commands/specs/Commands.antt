@@ -19,10 +19,12 @@ use Rattle.pg_session_book.specs.pg_session.Sessions.{Answer, begin}
 use Rattle.pg_session_book.specs.pg_session.Shows.{IsShowText}
 use Rattle.pg_session_book.specs.pg_session.Texts.{HasBytes, KeepsAll, ServesAll, ServesFront, ServesLimit, ServesTaken}
 use Rattle.pg_session_book.specs.pg_session.Trials.{IsTrialText}
+use Rattle.pg_session_book.specs.pg_session.pg_session_texts.declared.forms.ReplyForm.{ReplyForm}
+use Rattle.pg_session_book.specs.pg_session.pg_session_texts.declared.forms.ReplyForm.TheVariants.{Json, Lines}
 use Rattle.pg_session_book.specs.OpenedBooks.{BeginsWith}
 use Rattle.pg_session_book.specs.Refusals.{IsBookRefusalLine, IsBookRefused}
 use Rattle.pg_session_book.specs.Entries.{EntryParts}
-use Rattle.pg_session_book.specs.Runs.{Way, entry_admits, freely, rotating, runs_by, runs_of, shown, tested}
+use Rattle.pg_session_book.specs.Runs.{Way, conditions_of, entry_admits, freely, rotating, runs_by, runs_of, shown, tested}
 use Rattle.pg_session_book.specs.SavedBooks.{IsSaved}
 use Rattle.pg_commands.specs.declared.status.Status.{Status}
 use Rattle.pg_commands.specs.declared.status.Status.TheVariants.{Done, Usage, ProgramRefused, ShelfFault, ReadFault, WriteFault, InputLimit, OutOfMemory, BookRefused}
@@ -124,6 +126,11 @@ abbrev pub SessionByCrew : RecordingWay → Bool → Type 0
 SessionByCrew way true = ⊥
 SessionByCrew way false = ByCrew way
 
+-- the form of the replies of a session: with `--json` each is a line of JSON
+abbrev pub reply_form : Bool → ReplyForm
+reply_form true = Json
+reply_form false = Lines
+
 -- ---- what crews did for the answers of a session
 
 -- the lines of a session that were recorded
@@ -159,6 +166,12 @@ pub record IsShown (text : List ℕ) (way : RecordingWay) (input : List ℤ) (wr
   pub accepted : IsAccepted text program
   pub shows : IsShowText (runs_by program (way_of way)) shown input written
 
+-- the precondition of what is recorded of an input, for a program text; or the reply where the recording gives no entry
+pub record IsConditions (text : List ℕ) (way : RecordingWay) (input : List ℤ) (written : List ℕ) : Type 0 where
+  pub program : NumberedProgram
+  pub accepted : IsAccepted text program
+  pub shows : IsShowText (runs_by program (way_of way)) conditions_of input written
+
 -- the text of a trial, for a program text, and what the crew that runs workers counted for it; its quantum is that without an option
 pub record IsTrial (text : List ℕ) (number : ℕ) (workers : WorkersChange) (written : List ℕ) : Type 0 where
   pub program : NumberedProgram
@@ -173,9 +186,9 @@ pub record ServesProgram (text : List ℕ) (Serves : NumberedProgram → Type 0)
   pub accepted : IsAccepted text program
   pub serves : Serves program
 
--- all lines of an input are answered, and of the answers this holds
-pub record ServesMaking (Makes : List Answer → Type 0) (p : NumberedProgram) (way : Way) (first : Kept EntryParts) (old new : Option (List ℕ)) (input : List ℕ) : Type 0 where
-  pub all : ServesAll entry_admits (runs_by p way) first old new input
+-- all lines of an input are answered in this form, and of the answers this holds
+pub record ServesMaking (form : ReplyForm) (Makes : List Answer → Type 0) (p : NumberedProgram) (way : Way) (first : Kept EntryParts) (old new : Option (List ℕ)) (input : List ℕ) : Type 0 where
+  pub all : ServesAll form entry_admits (runs_by p way) first old new input
   pub makes : Makes all.serves.session.answers
 
 -- what a session of the program begins with: nothing, or the entries of the book of this name, where the shelf tells its bytes
@@ -188,24 +201,24 @@ abbrev pub ServesFrom : List ℕ → Option Word → World → (NumberedProgram 
 ServesFrom text named w Serves = ServesProgram text (λ p. (first : Kept EntryParts) × Begins w.shelf.texts named p first × Serves p first)
 
 -- the replies to all lines of what the source had
-abbrev pub WritesSession : List ℕ → RecordingWay → Option Word → Bool → World → Type 0
-WritesSession text way named only w = ServesFrom text named w (λ p first.
-    HasBytes w.source.rest_before (ServesMaking (CrewsMake (SessionMakes way only w.crew) w.workers) p (session_way way only) first w.sink.taken_before w.sink.taken_after))
+abbrev pub WritesSession : List ℕ → RecordingWay → Option Word → Bool → Bool → World → Type 0
+WritesSession text way named only json w = ServesFrom text named w (λ p first.
+    HasBytes w.source.rest_before (ServesMaking (reply_form json) (CrewsMake (SessionMakes way only w.crew) w.workers) p (session_way way only) first w.sink.taken_before w.sink.taken_after))
 
 -- the replies to the lines that end within the limit
-abbrev pub WritesLimit : List ℕ → RecordingWay → Option Word → Bool → World → Type 0
-WritesLimit text way named only w = ServesFrom text named w (λ p first.
-    HasBytes w.source.rest_before (ServesLimit entry_admits (runs_by p (session_way way only)) first w.sink.taken_before w.sink.taken_after))
+abbrev pub WritesLimit : List ℕ → RecordingWay → Option Word → Bool → Bool → World → Type 0
+WritesLimit text way named only json w = ServesFrom text named w (λ p first.
+    HasBytes w.source.rest_before (ServesLimit (reply_form json) entry_admits (runs_by p (session_way way only)) first w.sink.taken_before w.sink.taken_after))
 
 -- the replies to the lines that end in the bytes which were taken before a read failed
-abbrev pub WritesTaken : List ℕ → RecordingWay → Option Word → Bool → World → Type 0
-WritesTaken text way named only w = ServesFrom text named w (λ p first.
-    ServesTaken entry_admits (runs_by p (session_way way only)) first w.source.rest_before w.source.rest_after w.sink.taken_before w.sink.taken_after)
+abbrev pub WritesTaken : List ℕ → RecordingWay → Option Word → Bool → Bool → World → Type 0
+WritesTaken text way named only json w = ServesFrom text named w (λ p first.
+    ServesTaken (reply_form json) entry_admits (runs_by p (session_way way only)) first w.source.rest_before w.source.rest_after w.sink.taken_before w.sink.taken_after)
 
 -- a front of the replies
-abbrev pub WritesReplies : List ℕ → RecordingWay → Option Word → Bool → World → Type 0
-WritesReplies text way named only w = ServesFrom text named w (λ p first.
-    HasBytes w.source.rest_before (λ input. ServesFront entry_admits (runs_by p (session_way way only)) first (lines_of input) w.sink.taken_before w.sink.taken_after))
+abbrev pub WritesReplies : List ℕ → RecordingWay → Option Word → Bool → Bool → World → Type 0
+WritesReplies text way named only json w = ServesFrom text named w (λ p first.
+    HasBytes w.source.rest_before (λ input. ServesFront (reply_form json) entry_admits (runs_by p (session_way way only)) first (lines_of input) w.sink.taken_before w.sink.taken_after))
 
 -- ---- saving
 
@@ -230,9 +243,13 @@ pub record WritesShown (text : List ℕ) (way : RecordingWay) (input : List ℤ)
   pub writes : WritesText (IsShown text way input) w.sink.taken_before w.sink.taken_after
   pub makes : MakesRounds way w.crew 1
 
--- ---- by command. The program text of `once` is that which the source had, where it tells it, and that of `serve` and of `show` is
--- that of their file, where the shelf tells it; a book of `serve` is that of its name. No words are the command `conditions` yet, and
--- nothing is said of it
+-- the precondition of what is recorded of an input was written, for a program text
+pub record WritesConditions (text : List ℕ) (way : RecordingWay) (input : List ℤ) (w : World) : Type 0 where
+  pub writes : WritesText (IsConditions text way input) w.sink.taken_before w.sink.taken_after
+  pub makes : MakesRounds way w.crew 1
+
+-- ---- by command. The program text of `once` is that which the source had, where it tells it, and that of `serve`, `book`, `show` and
+-- `conditions` is that of their file, where the shelf tells it; a book of `serve` is that of its name
 
 -- a text which is that of the name, where the shelf tells it
 abbrev pub Fetched : (List ℕ → Option (List ℕ)) → Word → (List ℕ → Type 0) → Type 0
@@ -254,10 +271,10 @@ MayFetch w (trial number) name = ⊥
 -- Done: the whole text was written
 abbrev pub WritesWhole : World → Meaning → Type 0
 WritesWhole w (once quantum numbers) = HasBytes w.source.rest_before (λ text. WritesText (IsOnceText text quantum numbers) w.sink.taken_before w.sink.taken_after)
-WritesWhole w (serve file way named only json) = Fetched w.shelf.texts file (λ text. WritesSession text way named only w)
+WritesWhole w (serve file way named only json) = Fetched w.shelf.texts file (λ text. WritesSession text way named only json w)
 WritesWhole w (book file way) = Fetched w.shelf.texts file (λ text. WritesText (SavesText text way w) w.sink.taken_before w.sink.taken_after)
 WritesWhole w (show file way numbers) = Fetched w.shelf.texts file (λ text. WritesShown text way numbers w)
-WritesWhole w (conditions file way numbers) = ⊥
+WritesWhole w (conditions file way numbers) = Fetched w.shelf.texts file (λ text. WritesConditions text way numbers w)
 WritesWhole w (trial number) = WritesText (IsTrial trial_program number w.workers) w.sink.taken_before w.sink.taken_after
 
 -- the line that says why the text of the file is refused was written, and nothing was read
@@ -271,7 +288,7 @@ WritesRefusal w (once quantum numbers) = HasBytes w.source.rest_before (λ text.
 WritesRefusal w (serve file way named only json) = RefusesFile w file
 WritesRefusal w (book file way) = RefusesFile w file
 WritesRefusal w (show file way numbers) = Fetched w.shelf.texts file (λ text. WritesText (IsRefusalLine text) w.sink.taken_before w.sink.taken_after)
-WritesRefusal w (conditions file way numbers) = ⊥
+WritesRefusal w (conditions file way numbers) = Fetched w.shelf.texts file (λ text. WritesText (IsRefusalLine text) w.sink.taken_before w.sink.taken_after)
 WritesRefusal w (trial number) = WritesText (IsRefusalLine trial_program) w.sink.taken_before w.sink.taken_after
 
 -- the line refuses the book of this name for the program
@@ -306,7 +323,7 @@ pub record FailsToFetch (w : World) (meaning : Meaning) : Type 0 where
 abbrev pub FailsToRead : World → Meaning → Type 0
 FailsToRead w (once quantum numbers) = Rose w.source.reads_before w.source.reads_after × TakesAtMost w.source.rest_before w.source.rest_after PROGRAM_TEXT_LIMIT × (w.sink.taken_after ≡ w.sink.taken_before)
 FailsToRead w (serve file way named only json) = Rose w.source.reads_before w.source.reads_after × TakesAtMost w.source.rest_before w.source.rest_after SESSION_INPUT_LIMIT
-    × Fetched w.shelf.texts file (λ text. WritesTaken text way named only w)
+    × Fetched w.shelf.texts file (λ text. WritesTaken text way named only json w)
 FailsToRead w (book file way) = Rose w.source.reads_before w.source.reads_after × TakesAtMost w.source.rest_before w.source.rest_after SESSION_INPUT_LIMIT
     × IsProgram w file × (w.sink.taken_after ≡ w.sink.taken_before)
 FailsToRead w (show file way numbers) = ⊥
@@ -318,12 +335,13 @@ abbrev pub WritesFront : World → Meaning → Type 0
 WritesFront w (once quantum numbers) = HasBytes w.source.rest_before (λ text.
     WritesTextFront (IsOnceText text quantum numbers) w.sink.taken_before w.sink.taken_after ⊎ WritesTextFront (IsRefusalLine text) w.sink.taken_before w.sink.taken_after)
 WritesFront w (serve file way named only json) = Fetched w.shelf.texts file (λ text.
-    WritesReplies text way named only w ⊎ WritesTextFront (IsRefusalLine text) w.sink.taken_before w.sink.taken_after ⊎ WritesTextFront (RefusesBook text named w) w.sink.taken_before w.sink.taken_after)
+    WritesReplies text way named only json w ⊎ WritesTextFront (IsRefusalLine text) w.sink.taken_before w.sink.taken_after ⊎ WritesTextFront (RefusesBook text named w) w.sink.taken_before w.sink.taken_after)
 WritesFront w (book file way) = Fetched w.shelf.texts file (λ text.
     WritesTextFront (SavesText text way w) w.sink.taken_before w.sink.taken_after ⊎ WritesTextFront (IsRefusalLine text) w.sink.taken_before w.sink.taken_after)
 WritesFront w (show file way numbers) = Fetched w.shelf.texts file (λ text.
     WritesTextFront (IsShown text way numbers) w.sink.taken_before w.sink.taken_after ⊎ WritesTextFront (IsRefusalLine text) w.sink.taken_before w.sink.taken_after)
-WritesFront w (conditions file way numbers) = ⊥
+WritesFront w (conditions file way numbers) = Fetched w.shelf.texts file (λ text.
+    WritesTextFront (IsConditions text way numbers) w.sink.taken_before w.sink.taken_after ⊎ WritesTextFront (IsRefusalLine text) w.sink.taken_before w.sink.taken_after)
 WritesFront w (trial number) = WritesTextFront (IsTrial trial_program number w.workers) w.sink.taken_before w.sink.taken_after ⊎ WritesTextFront (IsRefusalLine trial_program) w.sink.taken_before w.sink.taken_after
 
 -- WriteFault: a write failed, and a front was written
@@ -334,7 +352,7 @@ FailsToWrite w meaning = Rose w.sink.writes_before w.sink.writes_after × Writes
 -- nothing was written
 abbrev pub ExceedsLimit : World → Meaning → Type 0
 ExceedsLimit w (once quantum numbers) = ⊥
-ExceedsLimit w (serve file way named only json) = Fetched w.shelf.texts file (λ text. WritesLimit text way named only w)
+ExceedsLimit w (serve file way named only json) = Fetched w.shelf.texts file (λ text. WritesLimit text way named only json w)
 ExceedsLimit w (book file way) = IsProgram w file × HasBytes w.source.rest_before (λ input. SESSION_INPUT_LIMIT < length input) × (w.sink.taken_after ≡ w.sink.taken_before)
 ExceedsLimit w (show file way numbers) = ⊥
 ExceedsLimit w (conditions file way numbers) = ⊥
@@ -342,7 +360,7 @@ ExceedsLimit w (trial number) = ⊥
 
 -- OutOfMemory: nothing was written, or of `serve` a front of the replies
 abbrev pub LacksMemory : World → Meaning → Type 0
-LacksMemory w (serve file way named only json) = (w.sink.taken_after ≡ w.sink.taken_before) ⊎ Fetched w.shelf.texts file (λ text. WritesReplies text way named only w)
+LacksMemory w (serve file way named only json) = (w.sink.taken_after ≡ w.sink.taken_before) ⊎ Fetched w.shelf.texts file (λ text. WritesReplies text way named only json w)
 LacksMemory w meaning = w.sink.taken_after ≡ w.sink.taken_before
 
 -- the most bytes that are taken from the source: of a program text or of lines, and one more to see that there is one
@@ -381,7 +399,7 @@ IsDue w status (once quantum numbers) = IfSome w.source.rest_before (λ text. Du
 IsDue w status (serve file way named only json) = IfSome (w.shelf.texts file) (λ text. DueOfText (DueOfBook w named (DueOfLines w)) text status)
 IsDue w status (book file way) = IfSome (w.shelf.texts file) (λ text. DueOfText (λ p. DueOfLines w) text status)
 IsDue w status (show file way numbers) = IfSome (w.shelf.texts file) (λ text. DueOfText (λ p. IsOr Done) text status)
-IsDue w status (conditions file way numbers) = ⊥
+IsDue w status (conditions file way numbers) = IfSome (w.shelf.texts file) (λ text. DueOfText (λ p. IsOr Done) text status)
 IsDue w status (trial number) = DueOfText (λ p. IsOr Done) trial_program status
 
 -- the command reads the source

@@ -1,7 +1,9 @@
 //! The commands of the program: their words, their input and their text.
+// How goals are searched for: see docs/CONTRIBUTING.md.
 #![tactic(auto)]
 
 mod books;
+mod conditions;
 pub mod laws;
 mod once;
 mod programs;

@@ -60,6 +60,7 @@ pub(crate) fn load(alloc: Global, text: &[u8]) -> Result<Loaded, AllocError>
 pub(crate) fn too_long_line(alloc: Global) -> Result<Vec<u8>, AllocError>
     ensures { IfOk result (λ line. (text : List ℕ) → PROGRAM_TEXT_LIMIT < length text → IsRefusalLine text line.items) }
 {
+    // In two lines for the proof: see docs/CONTRIBUTING.md.
     let line = refusal_line(alloc, &[], TextRefusal::TooLong)?;
     Ok(line)
 }

@@ -7,7 +7,7 @@ ghost use Rattle.pg_commands_words.specs.Commands.{IsWay, serve};
 ghost use Rattle.pg_io.specs.Faults.{Rose};
 ghost use Rattle.pg_session_book.specs.pg_session.Progress.{Stands};
 ghost use Rattle.pg_session_book.specs.Runs.{Way, freely, rotating, runs_by, tested};
-ghost use Rattle.pg_commands.specs.Commands.{CrewsMake, EndsAs, SessionByCrew, SessionMakes, crew_change, session_way, shelf_change, sink_change, source_change, workers_change, world};
+ghost use Rattle.pg_commands.specs.Commands.{CrewsMake, EndsAs, SessionByCrew, SessionMakes, crew_change, reply_form, session_way, shelf_change, sink_change, source_change, workers_change, world};
 ghost use Rattle.pg_commands.specs.Sessions.{IsOpening, SessionEnds, nothing_told, rounds_told};
 ghost use Rattle.pg_commands.specs.Statuses.{session_status};
 
@@ -23,6 +23,7 @@ use pg_session_book::laws::a_book_is_opened_or_refused_for_one_reason;
 use pg_session_book::pg_book::laws::what_is_read_is_within_limits;
 use pg_session_book::pg_free::{FreeCrew, Seeded};
 use pg_session_book::pg_go::Crew;
+use pg_session_book::pg_session::pg_session_texts::ReplyForm;
 use pg_session_book::pg_session::{ServeFault, begin};
 use pg_session_book::{Entry, FreeRunner, OpenedBook, ProgramRunner, TestedRunner};
 use std::alloc::Global;
@@ -43,12 +44,24 @@ pub(crate) fn status_of(ended: Result<(), ServeFault>) -> Status
     }
 }
 
+/// The form of the replies, by whether they are JSON.
+fn reply_form(json: bool) -> ReplyForm
+    ensures { result ≡ reply_form json }
+{
+    if json {
+        ReplyForm::Json
+    } else {
+        ReplyForm::Lines
+    }
+}
+
 /// A session whose recordings let threads take their turns in number order, with up to a quantum of steps each.
 fn serve_in_rotation<R: Threads + Wait + Sync, S: Source, K: Sink, C: Crew + Drop>(
     rt: &R,
     alloc: Global,
     program: &Program,
     quantum: u32,
+    form: ReplyForm,
     first: Cache<Entry>,
     src: &mut S,
     out: &mut K,
@@ -59,13 +72,13 @@ fn serve_in_rotation<R: Threads + Wait + Sync, S: Source, K: Sink, C: Crew + Dro
     requires most { quantum ≤ QUANTUM_LIMIT }
     requires stands { Stands (runs_by program.now (rotating quantum)) first }
     requires few { first.inserted ≤ CACHE_LIMIT }
-    ensures { SessionEnds (CrewsMake nothing_told (workers_change (C.turns crew.old) (C.turns crew.new))) program.now (rotating quantum) first
+    ensures { SessionEnds form (CrewsMake nothing_told (workers_change (C.turns crew.old) (C.turns crew.new))) program.now (rotating quantum) first
         (source_change (S.rest src.old) (S.rest src.new) (S.faults src.old) (S.faults src.new))
         (sink_change (K.taken out.old) (K.taken out.new) (K.faults out.old) (K.faults out.new)) result }
 {
     let other = crew.another();
     let mut runner = ProgramRunner::new(program, quantum, mem::replace(crew, other));
-    let ended = pg_session_book::pg_session::serve(rt, alloc, &mut runner, first, src, out);
+    let ended = pg_session_book::pg_session::serve(rt, alloc, &mut runner, form, first, src, out);
     *crew = runner.into_crew();
     ended
 }
@@ -75,6 +88,7 @@ fn serve_freely<R: Threads + Wait + Sync, S: Source, K: Sink, G: FreeCrew + Drop
     rt: &R,
     alloc: Global,
     program: &Program,
+    form: ReplyForm,
     first: Cache<Entry>,
     src: &mut S,
     out: &mut K,
@@ -84,7 +98,7 @@ fn serve_freely<R: Threads + Wait + Sync, S: Source, K: Sink, G: FreeCrew + Drop
     requires can_run { (input : List ℤ) → length input < 2 ^ 64 → CanRun program.now input }
     requires stands { Stands (runs_by program.now freely) first }
     requires few { first.inserted ≤ CACHE_LIMIT }
-    ensures { SessionEnds (CrewsMake (rounds_told (crew_change (G.rounds free.old) (G.rounds free.new))) (workers_change (C.turns crew.old) (C.turns crew.new))) program.now freely first
+    ensures { SessionEnds form (CrewsMake (rounds_told (crew_change (G.rounds free.old) (G.rounds free.new))) (workers_change (C.turns crew.old) (C.turns crew.new))) program.now freely first
         (source_change (S.rest src.old) (S.rest src.new) (S.faults src.old) (S.faults src.new))
         (sink_change (K.taken out.old) (K.taken out.new) (K.faults out.old) (K.faults out.new)) result }
 {
@@ -93,7 +107,7 @@ fn serve_freely<R: Threads + Wait + Sync, S: Source, K: Sink, G: FreeCrew + Drop
     let recorders = mem::replace(free, other_free);
     let workers = mem::replace(crew, other);
     let mut runner = FreeRunner::new(program, recorders, workers);
-    let ended = pg_session_book::pg_session::serve(rt, alloc, &mut runner, first, src, out);
+    let ended = pg_session_book::pg_session::serve(rt, alloc, &mut runner, form, first, src, out);
     let crews = runner.into_crews();
     *free = crews.0;
     *crew = crews.1;
@@ -105,6 +119,7 @@ fn serve_tested<R: Threads + Wait + Sync, S: Source, K: Sink, C: Crew + Drop>(
     rt: &R,
     alloc: Global,
     program: &Program,
+    form: ReplyForm,
     first: Cache<Entry>,
     src: &mut S,
     out: &mut K,
@@ -113,24 +128,25 @@ fn serve_tested<R: Threads + Wait + Sync, S: Source, K: Sink, C: Crew + Drop>(
     requires can_run { (input : List ℤ) → length input < 2 ^ 64 → CanRun program.now input }
     requires stands { Stands (runs_by program.now tested) first }
     requires few { first.inserted ≤ CACHE_LIMIT }
-    ensures { SessionEnds (CrewsMake nothing_told (workers_change (C.turns crew.old) (C.turns crew.new))) program.now tested first
+    ensures { SessionEnds form (CrewsMake nothing_told (workers_change (C.turns crew.old) (C.turns crew.new))) program.now tested first
         (source_change (S.rest src.old) (S.rest src.new) (S.faults src.old) (S.faults src.new))
         (sink_change (K.taken out.old) (K.taken out.new) (K.faults out.old) (K.faults out.new)) result }
 {
     let other = crew.another();
     let mut runner = TestedRunner::new(program, mem::replace(crew, other));
-    let ended = pg_session_book::pg_session::serve(rt, alloc, &mut runner, first, src, out);
+    let ended = pg_session_book::pg_session::serve(rt, alloc, &mut runner, form, first, src, out);
     *crew = runner.into_crew();
     ended
 }
 
-/// A session that begins with these entries, whose lines are recorded in this way, or, where only tested ones are run, not at all.
+/// A session in this form that begins with these entries, whose lines are recorded in this way, or, where only tested ones are run, not at all.
 fn session<R: Threads + Wait + Sync, S: Source, K: Sink, G: FreeCrew + Drop, C: Crew + Drop>(
     rt: &R,
     alloc: Global,
     program: &Program,
     way: RecordingWay,
     only: bool,
+    form: ReplyForm,
     first: Cache<Entry>,
     src: &mut S,
     out: &mut K,
@@ -141,23 +157,23 @@ fn session<R: Threads + Wait + Sync, S: Source, K: Sink, G: FreeCrew + Drop, C: 
     requires way { IsWay way }
     requires stands { (v : Way) → Stands (runs_by program.now v) first }
     requires few { first.inserted ≤ CACHE_LIMIT }
-    ensures ends { SessionEnds (CrewsMake (SessionMakes way only (crew_change (G.rounds free.old) (G.rounds free.new))) (workers_change (C.turns crew.old) (C.turns crew.new)))
+    ensures ends { SessionEnds form (CrewsMake (SessionMakes way only (crew_change (G.rounds free.old) (G.rounds free.new))) (workers_change (C.turns crew.old) (C.turns crew.new)))
         program.now (session_way way only) first
         (source_change (S.rest src.old) (S.rest src.new) (S.faults src.old) (S.faults src.new))
         (sink_change (K.taken out.old) (K.taken out.new) (K.faults out.old) (K.faults out.new)) result }
     ensures others { SessionByCrew way only ⊎ (G.rounds free.new ≡ G.rounds free.old) }
 {
     if only {
-        return serve_tested(rt, alloc, program, first, src, out, crew);
+        return serve_tested(rt, alloc, program, form, first, src, out, crew);
     }
     match way {
         RecordingWay::Rotating(quantum) => {
-            serve_in_rotation(rt, alloc, program, quantum, first, src, out, crew)
+            serve_in_rotation(rt, alloc, program, quantum, form, first, src, out, crew)
         }
-        RecordingWay::Free => serve_freely(rt, alloc, program, first, src, out, free, crew),
+        RecordingWay::Free => serve_freely(rt, alloc, program, form, first, src, out, free, crew),
         RecordingWay::Seeded(seed) => {
             let mut free = Seeded::new(seed);
-            serve_freely(rt, alloc, program, first, src, out, &mut free, crew)
+            serve_freely(rt, alloc, program, form, first, src, out, &mut free, crew)
         }
     }
 }
@@ -228,6 +244,7 @@ pub(crate) fn serve<
         &program,
         command.way,
         command.only,
+        reply_form(command.json),
         first,
         src,
         out,

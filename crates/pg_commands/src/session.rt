@@ -2,6 +2,7 @@
 ghost use Rattle.std.specs.Prelude.{◌≡◌, ◌⊎◌, ℕ, List, map, string_bytes};
 ghost use Rattle.pg_commands.specs.Commands.{Ends, IsSession, crew_change, shelf_change, sink_change, source_change, workers_change, world};
 
+use crate::conditions::conditions;
 use crate::once::once;
 use crate::saving::save_book;
 use crate::serve::serve;
@@ -17,7 +18,7 @@ use std::sync::Wait;
 use std::thread::Threads;
 
 /// Runs the command that the words are, without the program's own name. The words are read first. Each reply, each refusal
-/// line, and the whole text of `once`, `book`, `show` and `trial` is handed to the sink in one piece.
+/// line, and the whole text of `once`, `book`, `show`, `conditions` and `trial` is handed to the sink in one piece.
 ///
 /// - `once` and up to 512 numbers runs the program text that is all that the source has, of which at most the limit and one
 ///   more byte are taken. It writes what the program prints on these numbers, and then how its run ended. Where the rotation
@@ -28,19 +29,21 @@ use std::thread::Threads;
 /// - `book` and a file holds such a session, whose replies nobody is told, and writes the book of the entries that it keeps at the end.
 /// - `show`, a file and up to 512 numbers writes what a session would record of these numbers as its first line: the turns,
 ///   the races, the decisions, what was printed, and the end; or the reply to an input that isn't kept.
+/// - `conditions`, a file and up to 512 numbers writes the precondition of that recording: the numbers that are computed of an input,
+///   and the checks that an input meets which may use its schedule; or the reply to an input that isn't kept.
 /// - `trial` and a number up to 9,999 holds a session of the trial's program over 500 lines that the number settles, and
 ///   writes its counts.
 ///
-/// A recording lets threads take their turns in number order. `once`, `serve`, `book` and `show` take `--quantum` and the steps of a
-/// thread's turn then, from 1 to 10,000 and 100 without it. In place of it `serve`, `book` and `show` take `--free`, so that the given
-/// crew records, or `--seed` and a number below 2^64, so that a generator with this seed picks the thread of each step. A word
+/// A recording lets threads take their turns in number order. `once`, `serve`, `book`, `show` and `conditions` take `--quantum` and the
+/// steps of a thread's turn then, from 1 to 10,000 and 100 without it. In place of it all of these but `once` take `--free`, so that the
+/// given crew records, or `--seed` and a number below 2^64, so that a generator with this seed picks the thread of each step. A word
 /// that begins with `-` stands after `--`. In place of the text, a program text that is refused gives the line
 /// `program refused L:C NAME` with the line, the column and the name of its first refusal, and behind them the text of a token
 /// that isn't supported.
 ///
 /// `serve` takes `--book` and a name: once the program is accepted, the shelf is asked for the book of this name, and its entries are
 /// the session's first ones. A book that is refused gives its line in place of the text. Beside it `--only` lets the session record
-/// nothing: a line that no entry of the book admits is refused.
+/// nothing: a line that no entry of the book admits is refused. With `--json` each of its replies is a line of JSON.
 ///
 /// A line of `serve`, `book` and `trial` that is answered by reuse is run by workers, one for each thread of the program, and the
 /// second crew makes their rounds. It may run them one after another or at once: the answer is the same.
@@ -82,8 +85,9 @@ pub fn peregrine<
         Ok(Some(Command::Book(command))) => save_book(
             rt, alloc, &command, src, shelf, out, free, crew,
         ),
-        // The program hasn't this one yet, so no words are it.
-        Ok(Some(Command::Conditions(_))) => unreachable!(),
+        Ok(Some(Command::Conditions(command))) => {
+            conditions(rt, alloc, &command, shelf, out, free)
+        }
         Ok(Some(Command::Trial(number))) => trial(rt, alloc, number, out, crew),
         Ok(None) => Status::Usage,
         Err(_) => Status::OutOfMemory,

@@ -18,7 +18,7 @@ use Rattle.pg_commands_words.specs.declared.values.TheConstants.{DEFAULT_QUANTUM
 use Rattle.pg_commands_words.specs.declared.names.Name.{Name}
 use Rattle.pg_commands_words.specs.declared.names.Name.TheVariants.{Once, Serve, Book, Show, Conditions, Trial}
 use Rattle.pg_commands_words.specs.Clap.{HasNoValues, HasValuesOf, Reads, ReadsNone, SaysNone, SaysOf, given_of_rows, program_app, words_in}
-use Rattle.pg_commands_words.specs.Commands.{HasFileAndNumbers, HasNumbers, HasSession, HasTrial, HasValues, IsWay, IsWithin, IsWritten, Meaning, Means, NoCommand, Says, are_allowed, is_offered, name_of, name_word, once, serve, book, show, conditions, trial}
+use Rattle.pg_commands_words.specs.Commands.{HasFileAndNumbers, HasNumbers, HasSession, HasTrial, HasValues, IsWay, IsWithin, Meaning, Means, NoCommand, Says, are_allowed, name_of, name_word, once, serve, book, show, conditions, trial}
 use Rattle.pg_commands_words.specs.Pieces.{Given, Word, given_in, positionals_of, words_of}
 use Rattle.pg_commands_words.specs.Values.{chosen_way, number_of, quantum_of, seed_of, trial_of, way_of}
 use Rattle.pg_commands_words.specs.Lines.{IsLine, is_line, name_of_line, named}
@@ -87,7 +87,7 @@ named-word Conditions = refl
 named-word Trial = refl
 
 -- the words of a command begin with its name
-pub name-passes : (words : List Word) (meaning : Meaning) → IsWritten words meaning → name_of_line words ≡ Some (name_of meaning)
+pub name-passes : (words : List Word) (meaning : Meaning) → Means words meaning → name_of_line words ≡ Some (name_of meaning)
 name-passes words meaning m =
     ap name_of_line m.spelled ∙ ap (λ b. cond b (named (name_word (name_of meaning))) None) (line-passes m.line m.plain m.at_most_once) ∙ named-word (name_of meaning)
 
@@ -96,7 +96,7 @@ taken words name e = let l = name-found words name e in ap (takes program_app) l
 
 -- ---- what the matches say
 
-pub name-read : (words : List Word) (name : Name) (meaning : Meaning) → name_of_line words ≡ Some name → Reads name (subcommand_of program_app words) meaning → IsWritten words meaning
+pub name-read : (words : List Word) (name : Name) (meaning : Meaning) → name_of_line words ≡ Some name → Reads name (subcommand_of program_app words) meaning → Means words meaning
 name-read words name meaning e r =
     let l = name-found words name e in
     let line = l.line.line in
@@ -114,7 +114,7 @@ name-read words name meaning e r =
     }
 
 -- the matches of the words of a command say what it is
-pub reads : (words : List Word) (meaning : Meaning) → IsWritten words meaning → Reads (name_of meaning) (subcommand_of program_app words) meaning
+pub reads : (words : List Word) (meaning : Meaning) → Means words meaning → Reads (name_of meaning) (subcommand_of program_app words) meaning
 reads words meaning m =
     let line = m.line in
     let fine : IsFine line = (m.plain, m.at_most_once) in
@@ -126,15 +126,12 @@ reads words meaning m =
     subst (λ f. Reads (name_of meaning) f meaning) (sym found) (refl, h)
 
 -- words write nothing
-abbrev pub NothingWritten : List Word → Type 0
-NothingWritten words = (meaning : Meaning) → IsWritten words meaning → ⊥
-
-pub none-read : (words : List Word) (name : Name) → name_of_line words ≡ Some name → ReadsNone name (subcommand_of program_app words) → NothingWritten words
+pub none-read : (words : List Word) (name : Name) → name_of_line words ≡ Some name → ReadsNone name (subcommand_of program_app words) → NoCommand words
 none-read words name e none meaning m =
     let same : name_of meaning ≡ name = some-name (name_of meaning) name (sym (name-passes words meaning m) ∙ e) in
     none meaning (subst (λ n. Reads n (subcommand_of program_app words) meaning) same (reads words meaning m))
 
-pub no-line : (words : List Word) → name_of_line words ≡ None → NothingWritten words
+pub no-line : (words : List Word) → name_of_line words ≡ None → NoCommand words
 no-line words e meaning m = none≢name (name_of meaning) (sym e ∙ name-passes words meaning m)
 
 -- ---- words are one command
@@ -218,7 +215,7 @@ one-read : (found : Option (Word × List Row)) (n : Name) (a b : Meaning) → Re
 one-read None n a b g h = absurd g
 one-read (Some f) n a b g h = one-values (given_of_rows f.1) (words_in f.1) a b (g.0 ∙ sym h.0) g.1.has_values h.1.has_values
 
-pub one-command : (words : List Word) (a b : Meaning) → IsWritten words a → IsWritten words b → a ≡ b
+pub one-command : (words : List Word) (a b : Meaning) → Means words a → Means words b → a ≡ b
 one-command words a b m n =
     let same : name_of b ≡ name_of a = some-name (name_of b) (name_of a) (sym (name-passes words b n) ∙ name-passes words a m) in
     one-read (subcommand_of program_app words) (name_of a) a b (reads words a m) (subst (λ k. Reads k (subcommand_of program_app words) b) same (reads words b n))
@@ -291,7 +288,7 @@ has-within o ws (conditions file way numbers) h = (chosen o way h.0, h.1.has_num
 has-within o ws (trial number) h = up-to h.text TRIAL_LIMIT number h.has_number
 
 -- a command's values are within their limits
-pub within : (words : List Word) (meaning : Meaning) → IsWritten words meaning → IsWithin meaning
+pub within : (words : List Word) (meaning : Meaning) → Means words meaning → IsWithin meaning
 within words meaning m = has-within (given_in m.line) (positionals_of m.line) meaning m.says.has_values
 
 -- ---- clauses about a value that may be there
@@ -335,15 +332,3 @@ says-none name o ws f meaning h = f meaning (h.0, h.1.has_values)
 
 pub none-allowed : (name : Name) (o : Given) (ws : List Word) → are_allowed name o ≡ false → SaysNone name o ws
 none-allowed name o ws refused meaning h = false≢true (sym refused ∙ ap (λ n. are_allowed n o) (sym h.0) ∙ h.1.allowed)
-
--- ---- what the program has of the commands
-
-pub is-command : (words : List Word) (meaning : Meaning) → IsWritten words meaning → is_offered meaning ≡ true → Means words meaning
-is-command words meaning written offered = record { written = written; offered = offered }
-
-pub no-command : (words : List Word) → NothingWritten words → NoCommand words
-no-command words none meaning m = none meaning m.written
-
-pub not-offered : (words : List Word) (meaning : Meaning) → IsWritten words meaning → is_offered meaning ≡ false → NoCommand words
-not-offered words meaning written refused other m =
-    false≢true (sym refused ∙ ap is_offered (one-command words meaning other written m.written) ∙ m.offered)

@@ -119,8 +119,8 @@ pub record Says (given : Given) (words : List Word) (meaning : Meaning) : Type 0
   pub allowed : are_allowed (name_of meaning) given ≡ true
   pub has_values : HasValues given words meaning
 
--- the words are the command's own word, and then a line with its values
-pub record IsWritten (words : List Word) (meaning : Meaning) : Type 0 where
+-- the words are this command: its own word, and then a line with its values
+pub record Means (words : List Word) (meaning : Meaning) : Type 0 where
   pub line : Line
   pub spelled : words ≡ name_word (name_of meaning) ∷ words_of line
   -- before `--`, a word other than `-` that begins with `-` is an option
@@ -128,24 +128,6 @@ pub record IsWritten (words : List Word) (meaning : Meaning) : Type 0 where
   -- each option stands there at most once
   pub at_most_once : (o : OptionName) → length (uses_of o line.pieces) ≤ 1
   pub says : Says (given_in line) (positionals_of line) meaning
-
--- ---- what the program has of these
-
--- the program has this command, with these values
-abbrev pub is_offered : Meaning → Bool
-is_offered (once quantum numbers) = true
-is_offered (serve file way named only json) = not json
-is_offered (book file way) = true
-is_offered (show file way numbers) = true
-is_offered (conditions file way numbers) = false
-is_offered (trial number) = true
-
--- ---- which command words are
-
--- the words are this command, which the program has
-pub record Means (words : List Word) (meaning : Meaning) : Type 0 where
-  pub written : IsWritten words meaning
-  pub offered : is_offered meaning ≡ true
 
 -- the words are no command
 abbrev pub NoCommand : List Word → Type 0

@@ -1,6 +1,4 @@
 //! The commands, with their values.
-ghost use Rattle.std.specs.Prelude.{◌≡◌};
-ghost use Rattle.pg_commands_words.specs.Commands.{is_offered, meaning_of};
 
 /// How a line that no entry admits is recorded.
 #[derive(Clone, Copy, Debug, PartialEq, Eq)]
@@ -83,17 +81,4 @@ pub enum Command {
     Conditions(Conditions),
     /// The trial that this number names, at most `pg_session_trial::TRIAL_LIMIT`.
     Trial(u64),
-}
-
-impl Command {
-    /// Whether the program has this command, with these values.
-    pub(crate) fn is_offered(&self) -> bool
-        ensures { result ≡ is_offered (meaning_of self.now) }
-    {
-        match self {
-            Command::Once(_) | Command::Book(_) | Command::Show(_) | Command::Trial(_) => true,
-            Command::Serve(it) => !it.json,
-            Command::Conditions(_) => false,
-        }
-    }
 }

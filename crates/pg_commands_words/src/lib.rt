@@ -1,4 +1,5 @@
 //! The words of the command line: which command they are, with its options and its numbers.
+// How goals are searched for: see docs/CONTRIBUTING.md.
 #![tactic(auto)]
 
 mod commands;

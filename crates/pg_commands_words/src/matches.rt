@@ -72,6 +72,7 @@ fn with_option<'a>(
     ensures local { IfOk result (λ c. (out-Command c).has_globals ≡ false) }
 {
     let option = option(alloc, name, takes_value);
+    // In two lines for the proof: see docs/CONTRIBUTING.md.
     let command = command.arg(option)?;
     Ok(command)
 }
@@ -83,6 +84,7 @@ fn with_words<'a>(alloc: Global, command: Command<'a>) -> Result<Command<'a>, Al
     ensures local { IfOk result (λ c. (out-Command c).has_globals ≡ false) }
 {
     let words = Arg::new(alloc, "words").action(ArgAction::Append);
+    // In two lines for the proof: see docs/CONTRIBUTING.md.
     let command = command.arg(words)?;
     Ok(command)
 }
@@ -112,6 +114,7 @@ fn with_line<'a>(
     ensures { IfOk result (λ c. app_of c ≡ with_line name.entry.now (app_of program.entry)) }
 {
     let line = line_command(alloc, name)?;
+    // In two lines for the proof: see docs/CONTRIBUTING.md.
     let program = program.subcommand(line)?;
     Ok(program)
 }

@@ -3,7 +3,7 @@ ghost use Rattle.std.specs.Prelude.{◌≡◌, ◌∷◌, [], map, string_bytes,
 ghost use Rattle.std.specs.Option.{option_map};
 ghost use Rattle.clap.specs.Words.{found_of, rows_of, subcommand_rows_of};
 ghost use Rattle.pg_commands_words.specs.Clap.{HasNoValues, HasValuesOf, Reads, ReadsNone, SaysNone, SaysOf, given_of, given_of_rows, words_in};
-ghost use Rattle.pg_commands_words.specs.Commands.{HasFileAndNumbers, HasSession, HasTrial, HasValues, IsCommand, IsWithin, IsWritten, Meaning, NoCommand, allows, are_allowed, book, conditions, fits, is_of_a_way, is_quantum, meaning_of, once, only_fits, serve, show};
+ghost use Rattle.pg_commands_words.specs.Commands.{HasFileAndNumbers, HasSession, HasTrial, HasValues, IsCommand, IsWithin, Meaning, NoCommand, allows, are_allowed, book, conditions, fits, is_of_a_way, is_quantum, meaning_of, once, only_fits, serve, show};
 ghost use Rattle.pg_commands_words.specs.Pieces.{Word};
 ghost use Rattle.pg_commands_words.specs.declared.commands.RecordingWay.{RecordingWay};
 ghost use Rattle.pg_commands_words.specs.Values.{is_book_name};
@@ -16,27 +16,12 @@ use crate::values::{chosen_way, few_numbers, trial_number};
 use clap::ArgMatches;
 use std::alloc::{AllocError, Global};
 
-/// The command that these words are, without the program's own name, or `None` where they are none that the program has.
-/// The only error is want of memory.
+/// The command that these words are, without the program's own name, or `None` where they are none. The only error is want of
+/// memory.
 pub fn command(alloc: Global, words: &[String]) -> Result<Option<Command>, AllocError>
     ensures some { IfOk result (λ found. IfSome found (IsCommand (map string_bytes words.now))) }
     ensures none { IfOk result (λ found. IfNone found (NoCommand (map string_bytes words.now))) }
     ensures within { IfOk result (λ found. IfSome found (λ command. IsWithin (meaning_of command))) }
-{
-    let Some(command) = written(alloc, words)? else {
-        return Ok(None);
-    };
-    if command.is_offered() {
-        Ok(Some(command))
-    } else {
-        Ok(None)
-    }
-}
-
-// The command that these words write, whether the program has it or not.
-fn written(alloc: Global, words: &[String]) -> Result<Option<Command>, AllocError>
-    ensures some { IfOk result (λ found. IfSome found (λ c. IsWritten (map string_bytes words.now) (meaning_of c))) }
-    ensures none { IfOk result (λ found. IfNone found ((meaning : Meaning) → IsWritten (map string_bytes words.now) meaning → ⊥)) }
 {
     let Some(name) = name_of_line(words) else {
         return Ok(None);

@@ -100,6 +100,7 @@ fn is_a_line(words: &[String]) -> bool
         seen: Seen::nothing(),
         waits: false,
     };
+    // The label is for the proof: see docs/CONTRIBUTING.md.
     'words: for place in 0..words.len() {
         let word = words[place].as_bytes();
         if ends_pieces(standing, word) {

@@ -12,6 +12,7 @@ use Rattle.pg_io.specs.Streams.{AppendsFront}
 use Rattle.pg_io.proofs.Known.{appends-append}
 use Rattle.pg_cache.specs.Kept.{Kept}
 use Rattle.pg_num.specs.declared.limits.TheConstants.{LINE_LIMIT}
+use Rattle.pg_session_texts.specs.declared.forms.ReplyForm.{ReplyForm}
 use Rattle.pg_session.specs.Lines.{begun_behind, ended_behind, input_of}
 use Rattle.pg_session.specs.Counts.{AreCounted, Counts, RoseBy, Told, is_of_recording, reused_turns}
 use Rattle.pg_session.specs.Progress.{Answered, CutShort, IsReplyTo, begun_after, ended_after, inputs_after, keep}
@@ -64,63 +65,64 @@ module _ {M : Type 0} (admits : M → List ℤ → Bool) (runs : Runs M) where
   answers_one : (kept : Kept M) (x : Option (List ℤ)) (a : Answer) (next : Kept M) → AnswersLine admits runs kept x a next → AnswersAll admits runs kept (x ∷ []) (a ∷ []) next
   answers_one kept x a next h = record { first = a; next = next; rest = []; all = refl; is_first = h; are_rest = (refl, refl) }
 
-  -- what a sink tells stays where nothing is written
-  appends_none : (told : Option (List ℕ)) → Appends told told []
-  appends_none None = tt
-  appends_none (Some bytes) = sym (append-nil bytes)
+-- what a sink tells stays where nothing is written
+appends_none : (told : Option (List ℕ)) → Appends told told []
+appends_none None = tt
+appends_none (Some bytes) = sym (append-nil bytes)
 
-  one-text : (a : Answer) → flat_map answer_text (a ∷ []) ≡ answer_text a
-  one-text a = append-nil (answer_text a)
+one-text : (form : ReplyForm) (a : Answer) → flat_map (answer_text form) (a ∷ []) ≡ answer_text form a
+one-text form a = append-nil (answer_text form a)
 
-  pub answered_none : (kept : Kept M) (told : Told) → Answered admits runs kept [] kept told told
+module _ {M : Type 0} {form : ReplyForm} (admits : M → List ℤ → Bool) (runs : Runs M) where
+  pub answered_none : (kept : Kept M) (told : Told) → Answered form admits runs kept [] kept told told
   answered_none kept told = record { answers = []; session = (refl, refl); written = appends_none told.taken; counted = counted_none told.counts }
 
   pub answered_one : (kept : Kept M) (x : Option (List ℤ)) (a : Answer) (next : Kept M) (old new : Told) → AnswersLine admits runs kept x a next
-      → Appends old.taken new.taken (answer_text a) → AreCounted (a ∷ []) old.counts new.counts → Answered admits runs kept (x ∷ []) next old new
+      → Appends old.taken new.taken (answer_text form a) → AreCounted (a ∷ []) old.counts new.counts → Answered form admits runs kept (x ∷ []) next old new
   answered_one kept x a next old new h w n =
-      record { answers = a ∷ []; session = answers_one kept x a next h; written = subst (Appends old.taken new.taken) (sym (one-text a)) w; counted = n }
+      record { answers = a ∷ []; session = answers_one admits runs kept x a next h; written = subst (Appends old.taken new.taken) (sym (one-text form a)) w; counted = n }
 
   pub answered_then : (kept mid last : Kept M) (xs ys : List (Option (List ℤ))) (a b c : Told)
-      → Answered admits runs kept xs mid a b → Answered admits runs mid ys last b c → Answered admits runs kept (xs ++ ys) last a c
+      → Answered form admits runs kept xs mid a b → Answered form admits runs mid ys last b c → Answered form admits runs kept (xs ++ ys) last a c
   answered_then kept mid last xs ys a b c h g = record {
     answers = h.answers ++ g.answers;
-    session = answers_append kept xs ys h.answers g.answers mid last h.session g.session;
-    written = subst (Appends a.taken c.taken) (sym (flat_map-append answer_text h.answers g.answers)) (appends-append a.taken b.taken c.taken _ _ h.written g.written);
+    session = answers_append admits runs kept xs ys h.answers g.answers mid last h.session g.session;
+    written = subst (Appends a.taken c.taken) (sym (flat_map-append (answer_text form) h.answers g.answers)) (appends-append a.taken b.taken c.taken _ _ h.written g.written);
     counted = counted_then h.answers g.answers a.counts b.counts c.counts h.counted g.counted;
   }
 
-  pub cut_none : (kept : Kept M) (xs : List (Option (List ℤ))) (told : Option (List ℕ)) → CutShort admits runs kept xs told told
+  pub cut_none : (kept : Kept M) (xs : List (Option (List ℤ))) (told : Option (List ℕ)) → CutShort form admits runs kept xs told told
   cut_none kept xs told = record { count = 0; within = omega arith; answers = []; next = kept; session = (refl, refl); written = (0, appends_none told) }
 
   pub cut_one : (kept : Kept M) (x : Option (List ℤ)) (a : Answer) (next : Kept M) (old new : Option (List ℕ)) → AnswersLine admits runs kept x a next
-      → AppendsFront old new (answer_text a) → CutShort admits runs kept (x ∷ []) old new
+      → AppendsFront old new (answer_text form a) → CutShort form admits runs kept (x ∷ []) old new
   cut_one kept x a next old new h w = record {
     count = 1;
     within = omega arith;
     answers = a ∷ [];
     next = next;
-    session = answers_one kept x a next h;
-    written = subst (AppendsFront old new) (sym (one-text a)) w;
+    session = answers_one admits runs kept x a next h;
+    written = subst (AppendsFront old new) (sym (one-text form a)) w;
   }
 
   pub cut_then : (kept mid : Kept M) (xs ys : List (Option (List ℤ))) (a b : Told) (c : Option (List ℕ))
-      → Answered admits runs kept xs mid a b → CutShort admits runs mid ys b.taken c → CutShort admits runs kept (xs ++ ys) a.taken c
+      → Answered form admits runs kept xs mid a b → CutShort form admits runs mid ys b.taken c → CutShort form admits runs kept (xs ++ ys) a.taken c
   cut_then kept mid xs ys a b c h g = record {
     count = length xs + g.count;
     within = omega (arith, g.within, length-append xs ys);
     answers = h.answers ++ g.answers;
     next = g.next;
     session = subst (λ l. AnswersAll admits runs kept l (h.answers ++ g.answers) g.next) (sym (take-append-add xs ys g.count))
-        (answers_append kept xs (take g.count ys) h.answers g.answers mid g.next h.session g.session);
+        (answers_append admits runs kept xs (take g.count ys) h.answers g.answers mid g.next h.session g.session);
     written = (
-      length (flat_map answer_text h.answers) + g.written.0,
-      subst (Appends a.taken c) (sym (ap (take (length (flat_map answer_text h.answers) + g.written.0)) (flat_map-append answer_text h.answers g.answers)
-          ∙ take-append-add (flat_map answer_text h.answers) (flat_map answer_text g.answers) g.written.0))
+      length (flat_map (answer_text form) h.answers) + g.written.0,
+      subst (Appends a.taken c) (sym (ap (take (length (flat_map (answer_text form) h.answers) + g.written.0)) (flat_map-append (answer_text form) h.answers g.answers)
+          ∙ take-append-add (flat_map (answer_text form) h.answers) (flat_map (answer_text form) g.answers) g.written.0))
           (appends-append a.taken b.taken c _ _ h.written g.written.1),
     );
   }
 
-  pub cut_more : (kept : Kept M) (xs ys : List (Option (List ℤ))) (a c : Option (List ℕ)) → CutShort admits runs kept xs a c → CutShort admits runs kept (xs ++ ys) a c
+  pub cut_more : (kept : Kept M) (xs ys : List (Option (List ℤ))) (a c : Option (List ℕ)) → CutShort form admits runs kept xs a c → CutShort form admits runs kept (xs ++ ys) a c
   cut_more kept xs ys a c g = record {
     count = g.count;
     within = omega (arith, g.within, length-append xs ys);
@@ -132,13 +134,13 @@ module _ {M : Type 0} (admits : M → List ℤ → Bool) (runs : Runs M) where
 
   -- the reply to a line was written, or a front of it
   pub answered_reply : (kept : Kept M) (line seen : List ℕ) (next : Kept M) (text sent : List ℕ) (old new : Told) → seen ≡ line → sent ≡ text
-      → IsReplyTo admits runs kept seen next text old.counts new.counts → Appends old.taken new.taken sent → Answered admits runs kept (input_of line ∷ []) next old new
+      → IsReplyTo form admits runs kept seen next text old.counts new.counts → Appends old.taken new.taken sent → Answered form admits runs kept (input_of line ∷ []) next old new
   answered_reply kept line seen next text sent old new is same r w =
       answered_one kept (input_of line) r.answer next old new (subst (λ l. AnswersLine admits runs kept (input_of l) r.answer next) is r.answered)
       (subst (Appends old.taken new.taken) (same ∙ r.whole) w) r.counted
 
   pub cut_reply : (kept : Kept M) (line seen : List ℕ) (next : Kept M) (text sent : List ℕ) (old new : Option (List ℕ)) (before after : Counts) → seen ≡ line → sent ≡ text
-      → IsReplyTo admits runs kept seen next text before after → AppendsFront old new sent → CutShort admits runs kept (input_of line ∷ []) old new
+      → IsReplyTo form admits runs kept seen next text before after → AppendsFront old new sent → CutShort form admits runs kept (input_of line ∷ []) old new
   cut_reply kept line seen next text sent old new before after is same r w =
       cut_one kept (input_of line) r.answer next old new (subst (λ l. AnswersLine admits runs kept (input_of l) r.answer next) is r.answered)
       (subst (AppendsFront old new) (same ∙ r.whole) w)

@@ -9,6 +9,7 @@ use Rattle.pg_io.specs.Streams.{TakesAtMost}
 use Rattle.pg_io.proofs.Known.{consumes-append}
 use Rattle.pg_cache.specs.Kept.{Kept}
 use Rattle.pg_num.specs.declared.limits.TheConstants.{LINE_LIMIT, SESSION_INPUT_LIMIT}
+use Rattle.pg_session_texts.specs.declared.forms.ReplyForm.{ReplyForm}
 use Rattle.pg_session.specs.Counts.{KeepsCounted, ServesCounted, Told}
 use Rattle.pg_session.specs.Lines.{begun_behind, ended_lines, input_of, last_line, lines_of}
 use Rattle.pg_session.specs.Progress.{Answered, CutShort, HasAll, HasAnswered, HasCut, HasTaken, Stands, begun_after, inputs_after}
@@ -88,67 +89,67 @@ consumes_still left rest next bytes h t =
     let none : t.0 ≡ [] = is_none t.0 (omega (arith, w)) in
     subst (Consumes left next) (ap (λ l. bytes ++ l) none ∙ append-nil bytes) (consumes-append left rest next bytes t.0 h t.1)
 
-module _ {M : Type 0} (admits : M → List ℤ → Bool) (runs : Runs M) (first : Kept M) (before after : Option (List ℕ)) where
+module _ {M : Type 0} {form : ReplyForm} (admits : M → List ℤ → Bool) (runs : Runs M) (first : Kept M) (before after : Option (List ℕ)) where
   -- a front of the answers to the first lines
-  pub front : (lines : List (List ℕ)) (inputs others : List (Option (List ℤ))) → inputs ++ others ≡ inputs_of lines → CutShort admits runs first inputs before after
-      → ServesFront admits runs first lines before after
+  pub front : (lines : List (List ℕ)) (inputs others : List (Option (List ℤ))) → inputs ++ others ≡ inputs_of lines → CutShort form admits runs first inputs before after
+      → ServesFront form admits runs first lines before after
   front lines inputs others e h =
       let these : take h.count inputs ≡ inputs_of (take h.count lines) =
       sym (take-append-le h.count inputs others h.within) ∙ ap (take h.count) e ∙ take-map input_of h.count lines in
       record {
         count = h.count;
-        text = flat_map answer_text h.answers;
+        text = flat_map (answer_text form) h.answers;
         session = record { answers = h.answers; kept = h.next; session = subst (λ l. AnswersAll admits runs first l h.answers h.next) these h.session; whole = refl };
         appended = h.written;
       }
 
-  front_of_lines : (bytes ys : List ℕ) → CutShort admits runs first (inputs_after [] bytes) before after → ServesFront admits runs first (lines_of (bytes ++ ys)) before after
+  front_of_lines : (bytes ys : List ℕ) → CutShort form admits runs first (inputs_after [] bytes) before after → ServesFront form admits runs first (lines_of (bytes ++ ys)) before after
   front_of_lines bytes ys g =
       front (lines_of (bytes ++ ys)) (inputs_after [] bytes) (inputs_after (begun_after [] bytes) ys ++ map input_of (last_line (begun_behind [] (bytes ++ ys)))) (all_inputs_front bytes ys) g
 
-  front_of_bytes : (left rest : Option (List ℕ)) (bytes : List ℕ) → Consumes left rest bytes → CutShort admits runs first (inputs_after [] bytes) before after
-      → HasBytes left (λ input. ServesFront admits runs first (lines_of input) before after)
+  front_of_bytes : (left rest : Option (List ℕ)) (bytes : List ℕ) → Consumes left rest bytes → CutShort form admits runs first (inputs_after [] bytes) before after
+      → HasBytes left (λ input. ServesFront form admits runs first (lines_of input) before after)
   front_of_bytes None rest bytes h g = (bytes ++ [], tt, front_of_lines bytes [] g)
   front_of_bytes (Some xs) None bytes h g = absurd h
   front_of_bytes (Some xs) (Some ys) bytes h g = (bytes ++ ys, sym h, front_of_lines bytes ys g)
 
-  pub front_of : (left rest : Option (List ℕ)) → HasCut admits runs first left rest before after → HasBytes left (λ input. ServesFront admits runs first (lines_of input) before after)
+  pub front_of : (left rest : Option (List ℕ)) → HasCut form admits runs first left rest before after → HasBytes left (λ input. ServesFront form admits runs first (lines_of input) before after)
   front_of left rest h = front_of_bytes left rest h.bytes h.consumed h.cut
 
   -- another byte is there behind as many as a session takes
-  limited : (bytes ys : List ℕ) → 0 < length ys → length bytes ≡ SESSION_INPUT_LIMIT → Serves admits runs first (ended_lines bytes) before after
-      → ServesLimit admits runs first before after (bytes ++ ys)
+  limited : (bytes ys : List ℕ) → 0 < length ys → length bytes ≡ SESSION_INPUT_LIMIT → Serves form admits runs first (ended_lines bytes) before after
+      → ServesLimit form admits runs first before after (bytes ++ ys)
   limited bytes ys more n s =
       let front : take SESSION_INPUT_LIMIT (bytes ++ ys) ≡ bytes = ap (λ k. take k (bytes ++ ys)) (sym n) ∙ take-append_seam bytes ys in
       record {
         beyond = omega (arith, more, n, length-append bytes ys);
-        serves = subst (λ l. Serves admits runs first (ended_lines l) before after) (sym front) s;
+        serves = subst (λ l. Serves form admits runs first (ended_lines l) before after) (sym front) s;
       }
 
   pub serves_limit : (left rest : Option (List ℕ)) (bytes : List ℕ) → Consumes left rest bytes → IfSome rest (λ ys. 0 < length ys) → length bytes ≡ SESSION_INPUT_LIMIT
-      → Serves admits runs first (ended_lines bytes) before after → HasBytes left (ServesLimit admits runs first before after)
+      → Serves form admits runs first (ended_lines bytes) before after → HasBytes left (ServesLimit form admits runs first before after)
   serves_limit None rest bytes h more n s = (bytes ++ 0 ∷ [], tt, limited bytes (0 ∷ []) (omega arith) n s)
   serves_limit (Some xs) None bytes h more n s = absurd h
   serves_limit (Some xs) (Some ys) bytes h more n s = (bytes ++ ys, sym h, limited bytes ys more n s)
 
   pub serves_taken : (left rest : Option (List ℕ)) (bytes : List ℕ) → Consumes left rest bytes → length bytes ≤ SESSION_INPUT_LIMIT
-      → Serves admits runs first (ended_lines bytes) before after → ServesTaken admits runs first left rest before after
+      → Serves form admits runs first (ended_lines bytes) before after → ServesTaken form admits runs first left rest before after
   serves_taken left rest bytes h w s = record { taken = bytes; consumed = h; within = w; serves = s }
 
-module _ {M : Type 0} (admits : M → List ℤ → Bool) (runs : Runs M) (first : Kept M) (before after : Told) where
+module _ {M : Type 0} {form : ReplyForm} (admits : M → List ℤ → Bool) (runs : Runs M) (first : Kept M) (before after : Told) where
   -- inputs that were answered are a session
-  pub serves : (lines : List (List ℕ)) (inputs : List (Option (List ℤ))) (kept : Kept M) → inputs ≡ inputs_of lines → Answered admits runs first inputs kept before after
-      → Serves admits runs first lines before.taken after.taken
+  pub serves : (lines : List (List ℕ)) (inputs : List (Option (List ℤ))) (kept : Kept M) → inputs ≡ inputs_of lines → Answered form admits runs first inputs kept before after
+      → Serves form admits runs first lines before.taken after.taken
   serves lines inputs kept e h = record {
-    text = flat_map answer_text h.answers;
+    text = flat_map (answer_text form) h.answers;
     session = record { answers = h.answers; kept = kept; session = subst (λ l. AnswersAll admits runs first l h.answers kept) e h.session; whole = refl };
     appended = h.written;
   }
 
   -- ---- what was taken from the source
 
-  pub all_of : (left rest : Option (List ℕ)) (kept : Kept M) (line : List ℕ) (ended : Bool) → ended ≡ true → HasTaken admits runs first left rest before after kept line ended
-      → HasAll admits runs first left before after kept line
+  pub all_of : (left rest : Option (List ℕ)) (kept : Kept M) (line : List ℕ) (ended : Bool) → ended ≡ true → HasTaken form admits runs first left rest before after kept line ended
+      → HasAll form admits runs first left before after kept line
   all_of left rest kept line ended e h = record {
     bytes = h.bytes;
     whole = whole_of left rest h.bytes h.consumed (h.at_end e);
@@ -159,7 +160,7 @@ module _ {M : Type 0} (admits : M → List ℤ → Bool) (runs : Runs M) (first 
 
   -- the source has no byte behind as many as a session takes
   pub all_of_full : (left rest : Option (List ℕ)) (kept : Kept M) (line : List ℕ) (ended : Bool) → IfSome rest (λ bytes. bytes ≡ [])
-      → HasTaken admits runs first left rest before after kept line ended → HasAll admits runs first left before after kept line
+      → HasTaken form admits runs first left rest before after kept line ended → HasAll form admits runs first left before after kept line
   all_of_full left rest kept line ended e h = record {
     bytes = h.bytes;
     whole = whole_of left rest h.bytes h.consumed (at_end_if rest e);
@@ -169,26 +170,26 @@ module _ {M : Type 0} (admits : M → List ℤ → Bool) (runs : Runs M) (first 
   }
 
   pub limit_of : (left rest : Option (List ℕ)) (kept : Kept M) (line : List ℕ) (ended : Bool) → ended ≡ false → IfSome rest (λ ys. 0 < length ys)
-      → HasTaken admits runs first left rest before after kept line ended
-      → HasBytes left (ServesLimit admits runs first before.taken after.taken)
+      → HasTaken form admits runs first left rest before after kept line ended
+      → HasBytes left (ServesLimit form admits runs first before.taken after.taken)
   limit_of left rest kept line ended e more h =
       serves_limit admits runs first before.taken after.taken left rest h.bytes h.consumed more (h.full e) (serves (ended_lines h.bytes) (inputs_after [] h.bytes) kept (inputs_ended h.bytes) h.answered)
 
   -- the read that failed took none
-  pub taken_of : (left rest next : Option (List ℕ)) (kept : Kept M) (line : List ℕ) (ended : Bool) → TakesAtMost rest next 0 → HasTaken admits runs first left rest before after kept line ended
-      → ServesTaken admits runs first left next before.taken after.taken
+  pub taken_of : (left rest next : Option (List ℕ)) (kept : Kept M) (line : List ℕ) (ended : Bool) → TakesAtMost rest next 0 → HasTaken form admits runs first left rest before after kept line ended
+      → ServesTaken form admits runs first left next before.taken after.taken
   taken_of left rest next kept line ended none h =
       serves_taken admits runs first before.taken after.taken left next h.bytes (consumes_still left rest next h.bytes h.consumed none) h.within
       (serves (ended_lines h.bytes) (inputs_after [] h.bytes) kept (inputs_ended h.bytes) h.answered)
 
-  pub answered_of : (left rest : Option (List ℕ)) → HasAnswered admits runs first left rest before after → ServesTaken admits runs first left rest before.taken after.taken
+  pub answered_of : (left rest : Option (List ℕ)) → HasAnswered form admits runs first left rest before after → ServesTaken form admits runs first left rest before.taken after.taken
   answered_of left rest h =
       serves_taken admits runs first before.taken after.taken left rest h.bytes h.consumed h.within (serves (ended_lines h.bytes) (inputs_after [] h.bytes) h.kept (inputs_ended h.bytes) h.answered)
 
   -- ---- the last line
 
   -- no line has begun
-  pub served : (left : Option (List ℕ)) (kept : Kept M) (line : List ℕ) → line ≡ [] → HasAll admits runs first left before after kept line → HasBytes left (ServesCounted admits runs first before after)
+  pub served : (left : Option (List ℕ)) (kept : Kept M) (line : List ℕ) → line ≡ [] → HasAll form admits runs first left before after kept line → HasBytes left (ServesCounted form admits runs first before after)
   unfolding serves
   served left kept line e h = (
     h.bytes,
@@ -203,7 +204,7 @@ module _ {M : Type 0} (admits : M → List ℤ → Bool) (runs : Runs M) (first 
   )
 
   -- what is kept then
-  pub keeps : (left : Option (List ℕ)) (kept : Kept M) (line : List ℕ) → line ≡ [] → HasAll admits runs first left before after kept line → HasBytes left (KeepsCounted admits runs first kept before.counts after.counts)
+  pub keeps : (left : Option (List ℕ)) (kept : Kept M) (line : List ℕ) → line ≡ [] → HasAll form admits runs first left before after kept line → HasBytes left (KeepsCounted admits runs first kept before.counts after.counts)
   keeps left kept line e h = (
     h.bytes,
     h.whole,
@@ -217,13 +218,13 @@ module _ {M : Type 0} (admits : M → List ℤ → Bool) (runs : Runs M) (first 
     },
   )
 
-module _ {M : Type 0} (admits : M → List ℤ → Bool) (runs : Runs M) (first : Kept M) where
+module _ {M : Type 0} {form : ReplyForm} (admits : M → List ℤ → Bool) (runs : Runs M) (first : Kept M) where
   -- the end of the input ends the line that has begun, and this is kept then
   pub keeps_last : (others : Runs M) (left : Option (List ℕ)) (before mid after : Told) (kept next : Kept M) (line : List ℕ) → others ≡ runs → (line ≡ [] → ⊥)
-      → HasAll admits runs first left before mid kept line → Answered admits others kept (input_of line ∷ []) next mid after → HasBytes left (KeepsCounted admits runs first next before.counts after.counts)
+      → HasAll form admits runs first left before mid kept line → Answered form admits others kept (input_of line ∷ []) next mid after → HasBytes left (KeepsCounted admits runs first next before.counts after.counts)
   keeps_last others left before mid after kept next line same some h g =
-      let both : Answered admits runs first (inputs_after [] h.bytes ++ input_of line ∷ []) next before after =
-      answered_then admits runs first kept next _ _ before mid after h.answered (subst (λ r. Answered admits r kept (input_of line ∷ []) next mid after) same g) in (
+      let both : Answered form admits runs first (inputs_after [] h.bytes ++ input_of line ∷ []) next before after =
+      answered_then admits runs first kept next _ _ before mid after h.answered (subst (λ r. Answered form admits r kept (input_of line ∷ []) next mid after) same g) in (
         h.bytes,
         h.whole,
         record {
@@ -239,11 +240,11 @@ module _ {M : Type 0} (admits : M → List ℤ → Bool) (runs : Runs M) (first 
 
   -- the end of the input ends the line that has begun
   pub served_last : (others : Runs M) (left : Option (List ℕ)) (before mid after : Told) (kept next : Kept M) (line : List ℕ) → others ≡ runs → (line ≡ [] → ⊥)
-      → HasAll admits runs first left before mid kept line → Answered admits others kept (input_of line ∷ []) next mid after → HasBytes left (ServesCounted admits runs first before after)
+      → HasAll form admits runs first left before mid kept line → Answered form admits others kept (input_of line ∷ []) next mid after → HasBytes left (ServesCounted form admits runs first before after)
   unfolding serves
   served_last others left before mid after kept next line same some h g =
-      let both : Answered admits runs first (inputs_after [] h.bytes ++ input_of line ∷ []) next before after =
-      answered_then admits runs first kept next _ _ before mid after h.answered (subst (λ r. Answered admits r kept (input_of line ∷ []) next mid after) same g) in (
+      let both : Answered form admits runs first (inputs_after [] h.bytes ++ input_of line ∷ []) next before after =
+      answered_then admits runs first kept next _ _ before mid after h.answered (subst (λ r. Answered form admits r kept (input_of line ∷ []) next mid after) same g) in (
         h.bytes,
         h.whole,
         record {
@@ -257,23 +258,23 @@ module _ {M : Type 0} (admits : M → List ℤ → Bool) (runs : Runs M) (first 
       )
 
   pub served_cut : (others : Runs M) (left : Option (List ℕ)) (before mid : Told) (after : Option (List ℕ)) (kept : Kept M) (line : List ℕ) → others ≡ runs → (line ≡ [] → ⊥)
-      → HasAll admits runs first left before mid kept line → CutShort admits others kept (input_of line ∷ []) mid.taken after
-      → HasBytes left (λ input. ServesFront admits runs first (lines_of input) before.taken after)
+      → HasAll form admits runs first left before mid kept line → CutShort form admits others kept (input_of line ∷ []) mid.taken after
+      → HasBytes left (λ input. ServesFront form admits runs first (lines_of input) before.taken after)
   served_cut others left before mid after kept line same some h g =
-      let both : CutShort admits runs first (inputs_after [] h.bytes ++ input_of line ∷ []) before.taken after =
-      cut_then admits runs first kept _ _ before mid after h.answered (subst (λ r. CutShort admits r kept (input_of line ∷ []) mid.taken after) same g) in
+      let both : CutShort form admits runs first (inputs_after [] h.bytes ++ input_of line ∷ []) before.taken after =
+      cut_then admits runs first kept _ _ before mid after h.answered (subst (λ r. CutShort form admits r kept (input_of line ∷ []) mid.taken after) same g) in
       let all : (inputs_after [] h.bytes ++ input_of line ∷ []) ++ [] ≡ inputs_of (lines_of h.bytes) =
       append-nil (inputs_after [] h.bytes ++ input_of line ∷ []) ∙ ap (λ l. inputs_after [] h.bytes ++ input_of l ∷ []) h.begun ∙ all_inputs h.bytes (λ e. some (h.begun ∙ e)) in
       (h.bytes, h.whole, front admits runs first before.taken after (lines_of h.bytes) (inputs_after [] h.bytes ++ input_of line ∷ []) [] all both)
 
   -- no more entries are kept than bytes were taken
-  pub few_all : (left : Option (List ℕ)) (before after : Told) (kept : Kept M) (line : List ℕ) → HasAll admits runs first left before after kept line → kept.inserted ≤ first.inserted + SESSION_INPUT_LIMIT
+  pub few_all : (left : Option (List ℕ)) (before after : Told) (kept : Kept M) (line : List ℕ) → HasAll form admits runs first left before after kept line → kept.inserted ≤ first.inserted + SESSION_INPUT_LIMIT
   few_all left before after kept line h =
       let n : kept.inserted ≤ first.inserted + length h.bytes = inserted_within admits runs first kept [] h.bytes before after h.answered in
       let w = h.within in
       omega (arith, n, w)
 
   pub stands_after_all : (others : Runs M) (left : Option (List ℕ)) (before after : Told) (kept : Kept M) (line : List ℕ) → others ≡ runs → Stands runs first
-      → HasAll admits runs first left before after kept line → Stands others kept
+      → HasAll form admits runs first left before after kept line → Stands others kept
   stands_after_all others left before after kept line same s h =
       subst (λ r. Stands r kept) (sym same) (stands_answered admits runs first kept (inputs_after [] h.bytes) before after h.answered s)

@@ -4,6 +4,7 @@ use Rattle.std.specs.List.{sum_by}
 use Rattle.pg_session_texts.specs.declared.reply.ReplyKind.{ReplyKind}
 use Rattle.pg_session_texts.specs.declared.reply.ReplyKind.TheVariants.{Reused, RefusedLine, RefusedUntested}
 use Rattle.pg_cache.specs.Kept.{Kept}
+use Rattle.pg_session_texts.specs.declared.forms.ReplyForm.{ReplyForm}
 use Rattle.pg_session.specs.Sessions.{Answer, Runs}
 use Rattle.pg_session.specs.Texts.{KeepsAll, ServesAll}
 use Rattle.pg_session.specs.Trials.{IsTrialText, is_reused, turns_of}
@@ -48,8 +49,8 @@ abbrev pub told : Option (List ℕ) → Counts → Told
 told taken counts = record { taken = taken; counts = counts }
 
 -- all lines of an input that is no longer than the limit are answered, and what the answers took was counted
-pub record ServesCounted {M : Type 0} (admits : M → List ℤ → Bool) (runs : Runs M) (first : Kept M) (old new : Told) (input : List ℕ) : Type 0 where
-  pub all : ServesAll admits runs first old.taken new.taken input
+pub record ServesCounted {M : Type 0} (form : ReplyForm) (admits : M → List ℤ → Bool) (runs : Runs M) (first : Kept M) (old new : Told) (input : List ℕ) : Type 0 where
+  pub all : ServesAll form admits runs first old.taken new.taken input
   pub counted : AreCounted all.serves.session.answers old.counts new.counts
 
 -- this is kept once all lines of an input that is no longer than the limit were answered, and what the answers took was counted

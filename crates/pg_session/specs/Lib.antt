@@ -8,3 +8,4 @@ pub mod Faults
 pub mod Trials
 pub mod Counts
 pub mod Shows
+pub use Rattle.pg_session_texts.specs as pg_session_texts

@@ -5,7 +5,9 @@ use Rattle.pg_num.specs.declared.limits.TheConstants.{CACHE_LIMIT}
 use Rattle.pg_session_texts.specs.declared.reply.ReplyKind.{ReplyKind}
 use Rattle.pg_session_texts.specs.declared.reply.ReplyKind.TheVariants.{Recorded, Reused, RefusedLine, RefusedUntested}
 use Rattle.pg_session_texts.specs.declared.reply.EndLine.{EndLine}
-use Rattle.pg_session_texts.specs.Replies.{kind_of, reply_text}
+use Rattle.pg_session_texts.specs.Replies.{kind_of}
+use Rattle.pg_session_texts.specs.ReplyForms.{text_in}
+use Rattle.pg_session_texts.specs.declared.forms.ReplyForm.{ReplyForm}
 use Rattle.pg_session_texts.specs.pg_run.declared.outcome.Refusal.{Refusal}
 
 -- what a session asks of the runs of a program. M is the type of entries
@@ -29,8 +31,9 @@ pub record Answer : Type 0 where
   -- how the run along a schedule ended
   pub end : Option EndLine
 
-abbrev pub answer_text : Answer → List ℕ
-answer_text a = reply_text a.kind a.output a.end
+-- its text, in this form
+abbrev pub answer_text : ReplyForm → Answer → List ℕ
+answer_text form a = text_in form a.kind a.output a.end
 
 -- the least number of an entry that is kept and admits the input
 abbrev pub found : {M : Type 0} → (M → List ℤ → Bool) → Kept M → List ℤ → Option ℕ
@@ -114,12 +117,12 @@ opened entries = record { size = CACHE_LIMIT; inserted = length entries; values 
 abbrev pub begin : {M : Type 0} → Kept M
 begin = opened []
 
--- the text of a session over lines that are these inputs, or none, where this is kept at first
-pub record IsSessionText {M : Type 0} (admits : M → List ℤ → Bool) (runs : Runs M) (first : Kept M) (inputs : List (Option (List ℤ))) (text : List ℕ) : Type 0 where
+-- the text of a session in this form, over lines that are these inputs, or none, where this is kept at first
+pub record IsSessionText {M : Type 0} (form : ReplyForm) (admits : M → List ℤ → Bool) (runs : Runs M) (first : Kept M) (inputs : List (Option (List ℤ))) (text : List ℕ) : Type 0 where
   pub answers : List Answer
   pub kept : Kept M
   pub session : AnswersAll admits runs first inputs answers kept
-  pub whole : text ≡ flat_map answer_text answers
+  pub whole : text ≡ flat_map (answer_text form) answers
 
 -- ---- entries of a session
 

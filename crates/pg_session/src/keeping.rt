@@ -14,6 +14,7 @@ use crate::serving::take_all;
 use crate::session::{Session, end_line};
 use pg_cache::Cache;
 use pg_io::{Failed, Sink, Source};
+use pg_session_texts::ReplyForm;
 use std::alloc::Global;
 use std::sync::Wait;
 use std::thread::Threads;
@@ -62,12 +63,20 @@ pub fn kept_by<H: Threads + Wait + Sync, R: Runner, S: Source>(
         line: Vec::new(alloc),
     };
     let mut out = Nowhere;
-    take_all(rt, alloc, runner, &mut session, src, &mut out)?;
+    take_all(
+        rt,
+        alloc,
+        runner,
+        ReplyForm::Lines,
+        &mut session,
+        src,
+        &mut out,
+    )?;
     if session.line.is_empty() {
         let Session { cache, .. } = session;
         return Ok(cache);
     }
-    end_line(rt, alloc, runner, &mut session, &mut out)?;
+    end_line(rt, alloc, runner, ReplyForm::Lines, &mut session, &mut out)?;
     let Session { cache, .. } = session;
     Ok(cache)
 }

@@ -15,6 +15,7 @@ use crate::session::{Session, end_line, take_piece};
 use pg_cache::Cache;
 use pg_io::{Failed, Sink, Source};
 use pg_num::limits::SESSION_INPUT_LIMIT;
+use pg_session_texts::ReplyForm;
 use std::alloc::Global;
 use std::sync::Wait;
 use std::thread::Threads;
@@ -27,6 +28,7 @@ fn take_pieces<H: Threads + Wait + Sync, R: Runner, S: Source, K: Sink>(
     rt: &H,
     alloc: Global,
     runner: &mut R,
+    form: ReplyForm,
     session: &mut Session<R::Entry>,
     src: &mut S,
     out: &mut K,
@@ -35,14 +37,14 @@ fn take_pieces<H: Threads + Wait + Sync, R: Runner, S: Source, K: Sink>(
     requires stands { Stands (R.runs (R.subject runner.old)) session.old.cache }
     requires few { session.old.cache.inserted ≤ CACHE_LIMIT }
     requires line { session.old.line.items ≡ [] }
-    ensures taken { IfOk result (λ ended. HasTaken (admits_by R.Entry.meaning R.Entry.test) (R.runs (R.subject runner.old)) session.old.cache (S.rest src.old) (S.rest src.new)
+    ensures taken { IfOk result (λ ended. HasTaken form (admits_by R.Entry.meaning R.Entry.test) (R.runs (R.subject runner.old)) session.old.cache (S.rest src.old) (S.rest src.new)
         (told (K.taken out.old) (R.counts runner.old)) (told (K.taken out.new) (R.counts runner.new))
         session.new.cache session.new.line.items ended) }
     ensures read_fault { IsErrOf result ServeFault.ReadFault →
-        HasAnswered (admits_by R.Entry.meaning R.Entry.test) (R.runs (R.subject runner.old)) session.old.cache (S.rest src.old) (S.rest src.new)
+        HasAnswered form (admits_by R.Entry.meaning R.Entry.test) (R.runs (R.subject runner.old)) session.old.cache (S.rest src.old) (S.rest src.new)
         (told (K.taken out.old) (R.counts runner.old)) (told (K.taken out.new) (R.counts runner.new)) }
     ensures cut { (IsErrOf result ServeFault.WriteFault ⊎ IsErrOf result ServeFault.OutOfMemory) →
-        HasCut (admits_by R.Entry.meaning R.Entry.test) (R.runs (R.subject runner.old)) session.old.cache (S.rest src.old) (S.rest src.new) (K.taken out.old) (K.taken out.new) }
+        HasCut form (admits_by R.Entry.meaning R.Entry.test) (R.runs (R.subject runner.old)) session.old.cache (S.rest src.old) (S.rest src.new) (K.taken out.old) (K.taken out.new) }
     ensures within { IsErrOf result ServeFault.InputLimit → ⊥ }
     ensures takes { TakesAtMost (S.rest src.old) (S.rest src.new) SESSION_INPUT_LIMIT }
     ensures read_cause { IsErrOf result ServeFault.ReadFault → Rose (S.faults src.old) (S.faults src.new) }
@@ -58,7 +60,7 @@ fn take_pieces<H: Threads + Wait + Sync, R: Runner, S: Source, K: Sink>(
         match src.read(&mut piece[..room]) {
             Ok(0) => return Ok(true),
             Ok(n) => {
-                take_piece(rt, alloc, runner, session, &piece[..n], out)?;
+                take_piece(rt, alloc, runner, form, session, &piece[..n], out)?;
                 taken += n;
             }
             Err(Failed) => return Err(ServeFault::ReadFault),
@@ -91,6 +93,7 @@ pub(crate) fn take_all<H: Threads + Wait + Sync, R: Runner, S: Source, K: Sink>(
     rt: &H,
     alloc: Global,
     runner: &mut R,
+    form: ReplyForm,
     session: &mut Session<R::Entry>,
     src: &mut S,
     out: &mut K,
@@ -99,15 +102,15 @@ pub(crate) fn take_all<H: Threads + Wait + Sync, R: Runner, S: Source, K: Sink>(
     requires stands { Stands (R.runs (R.subject runner.old)) session.old.cache }
     requires few { session.old.cache.inserted ≤ CACHE_LIMIT }
     requires line { session.old.line.items ≡ [] }
-    ensures all { OnOk result (HasAll (admits_by R.Entry.meaning R.Entry.test)
+    ensures all { OnOk result (HasAll form (admits_by R.Entry.meaning R.Entry.test)
         (R.runs (R.subject runner.old)) session.old.cache (S.rest src.old)
         (told (K.taken out.old) (R.counts runner.old)) (told (K.taken out.new) (R.counts runner.new)) session.new.cache session.new.line.items) }
     ensures input_limit { IsErrOf result ServeFault.InputLimit →
-        HasBytes (S.rest src.old) (ServesLimit (admits_by R.Entry.meaning R.Entry.test) (R.runs (R.subject runner.old)) session.old.cache (K.taken out.old) (K.taken out.new)) }
+        HasBytes (S.rest src.old) (ServesLimit form (admits_by R.Entry.meaning R.Entry.test) (R.runs (R.subject runner.old)) session.old.cache (K.taken out.old) (K.taken out.new)) }
     ensures read_fault { IsErrOf result ServeFault.ReadFault →
-        ServesTaken (admits_by R.Entry.meaning R.Entry.test) (R.runs (R.subject runner.old)) session.old.cache (S.rest src.old) (S.rest src.new) (K.taken out.old) (K.taken out.new) }
+        ServesTaken form (admits_by R.Entry.meaning R.Entry.test) (R.runs (R.subject runner.old)) session.old.cache (S.rest src.old) (S.rest src.new) (K.taken out.old) (K.taken out.new) }
     ensures cut { (IsErrOf result ServeFault.WriteFault ⊎ IsErrOf result ServeFault.OutOfMemory) →
-        HasBytes (S.rest src.old) (λ input. ServesFront (admits_by R.Entry.meaning R.Entry.test) (R.runs (R.subject runner.old)) session.old.cache (lines_of input) (K.taken out.old) (K.taken out.new)) }
+        HasBytes (S.rest src.old) (λ input. ServesFront form (admits_by R.Entry.meaning R.Entry.test) (R.runs (R.subject runner.old)) session.old.cache (lines_of input) (K.taken out.old) (K.taken out.new)) }
     ensures takes { TakesAtMost (S.rest src.old) (S.rest src.new) (SESSION_INPUT_LIMIT + 1) }
     ensures read_within { IsErrOf result ServeFault.ReadFault → TakesAtMost (S.rest src.old) (S.rest src.new) SESSION_INPUT_LIMIT }
     ensures read_cause { IsErrOf result ServeFault.ReadFault → Rose (S.faults src.old) (S.faults src.new) }
@@ -116,7 +119,7 @@ pub(crate) fn take_all<H: Threads + Wait + Sync, R: Runner, S: Source, K: Sink>(
     ensures write_count { IsErrOf result ServeFault.WriteFault ⊎ (K.faults out.new ≡ K.faults out.old) }
     ensures stays { R.subject runner.new ≡ R.subject runner.old }
 {
-    let ended = take_pieces(rt, alloc, runner, session, src, out)?;
+    let ended = take_pieces(rt, alloc, runner, form, session, src, out)?;
     if ended {
         return Ok(());
     }
@@ -124,7 +127,7 @@ pub(crate) fn take_all<H: Threads + Wait + Sync, R: Runner, S: Source, K: Sink>(
     Ok(())
 }
 
-/// Answers the lines of a source, and writes each reply before the next read. A line is answered `refused line` where it
+/// Answers the lines of a source, and writes each reply in this form before the next read. A line is answered `refused line` where it
 /// isn't one of numbers; else by the least-numbered entry of the last `CACHE_LIMIT` that admits it; else by a recording, whose
 /// entry is kept. At most `SESSION_INPUT_LIMIT` bytes are taken, and one more to see that there is one.
 ///
@@ -136,6 +139,7 @@ pub fn serve<H: Threads + Wait + Sync, R: Runner, S: Source, K: Sink>(
     rt: &H,
     alloc: Global,
     runner: &mut R,
+    form: ReplyForm,
     first: Cache<R::Entry>,
     src: &mut S,
     out: &mut K,
@@ -143,16 +147,16 @@ pub fn serve<H: Threads + Wait + Sync, R: Runner, S: Source, K: Sink>(
     requires exact { IsExact R.Entry.meaning }
     requires stands { Stands (R.runs (R.subject runner.old)) first }
     requires few { first.inserted ≤ CACHE_LIMIT }
-    ensures done { OnOk result (HasBytes (S.rest src.old) (ServesCounted (admits_by R.Entry.meaning R.Entry.test) (R.runs (R.subject runner.old)) first
+    ensures done { OnOk result (HasBytes (S.rest src.old) (ServesCounted form (admits_by R.Entry.meaning R.Entry.test) (R.runs (R.subject runner.old)) first
         (told (K.taken out.old) (R.counts runner.old)) (told (K.taken out.new) (R.counts runner.new)))) }
     ensures input_limit { IsErrOf result ServeFault.InputLimit →
-        HasBytes (S.rest src.old) (ServesLimit (admits_by R.Entry.meaning R.Entry.test) (R.runs (R.subject runner.old)) first (K.taken out.old) (K.taken out.new)) }
+        HasBytes (S.rest src.old) (ServesLimit form (admits_by R.Entry.meaning R.Entry.test) (R.runs (R.subject runner.old)) first (K.taken out.old) (K.taken out.new)) }
     ensures read_fault { IsErrOf result ServeFault.ReadFault →
-        ServesTaken (admits_by R.Entry.meaning R.Entry.test) (R.runs (R.subject runner.old)) first (S.rest src.old) (S.rest src.new) (K.taken out.old) (K.taken out.new) }
+        ServesTaken form (admits_by R.Entry.meaning R.Entry.test) (R.runs (R.subject runner.old)) first (S.rest src.old) (S.rest src.new) (K.taken out.old) (K.taken out.new) }
     ensures write_fault_cuts { IsErrOf result ServeFault.WriteFault →
-        HasBytes (S.rest src.old) (λ input. ServesFront (admits_by R.Entry.meaning R.Entry.test) (R.runs (R.subject runner.old)) first (lines_of input) (K.taken out.old) (K.taken out.new)) }
+        HasBytes (S.rest src.old) (λ input. ServesFront form (admits_by R.Entry.meaning R.Entry.test) (R.runs (R.subject runner.old)) first (lines_of input) (K.taken out.old) (K.taken out.new)) }
     ensures out_of_memory_cuts { IsErrOf result ServeFault.OutOfMemory →
-        HasBytes (S.rest src.old) (λ input. ServesFront (admits_by R.Entry.meaning R.Entry.test) (R.runs (R.subject runner.old)) first (lines_of input) (K.taken out.old) (K.taken out.new)) }
+        HasBytes (S.rest src.old) (λ input. ServesFront form (admits_by R.Entry.meaning R.Entry.test) (R.runs (R.subject runner.old)) first (lines_of input) (K.taken out.old) (K.taken out.new)) }
     ensures read_cause { IsErrOf result ServeFault.ReadFault → Rose (S.faults src.old) (S.faults src.new) }
     ensures read_fault_within { IsErrOf result ServeFault.ReadFault → TakesAtMost (S.rest src.old) (S.rest src.new) SESSION_INPUT_LIMIT }
     ensures read_count { IsErrOf result ServeFault.ReadFault ⊎ (S.faults src.new ≡ S.faults src.old) }
@@ -165,11 +169,11 @@ pub fn serve<H: Threads + Wait + Sync, R: Runner, S: Source, K: Sink>(
         cache: first,
         line: Vec::new(alloc),
     };
-    take_all(rt, alloc, runner, &mut session, src, out)?;
+    take_all(rt, alloc, runner, form, &mut session, src, out)?;
     if session.line.is_empty() {
         return Ok(());
     }
     // The end of the source ends a line that has begun.
-    end_line(rt, alloc, runner, &mut session, out)?;
+    end_line(rt, alloc, runner, form, &mut session, out)?;
     Ok(())
 }

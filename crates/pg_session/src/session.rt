@@ -16,7 +16,7 @@ use crate::runner::Runner;
 use pg_cache::Cache;
 use pg_io::{Sink, write_all};
 use pg_num::limits::{CACHE_LIMIT, LINE_LIMIT};
-use pg_session_texts::{ReplyKind, reply_text};
+use pg_session_texts::{ReplyForm, ReplyKind, text_in};
 use std::alloc::{AllocError, Global};
 use std::sync::Wait;
 use std::thread::Threads;
@@ -36,6 +36,7 @@ pub(crate) struct Session<E: Drop> {
 pub fn begin<E: Drop>(alloc: Global) -> Result<Cache<E>, AllocError>
     ensures { IfOk result (λ c. c ≡ begin) }
 {
+    // In two lines for the proof: see docs/CONTRIBUTING.md.
     let cache = Cache::new(alloc, CACHE_LIMIT)?;
     Ok(cache)
 }
@@ -66,13 +67,13 @@ fn answer_line<H: Threads + Wait + Sync, R: Runner>(
     }
 }
 
-// The text of an answer.
-fn text_of(alloc: Global, answer: Answer) -> Result<Vec<u8>, AllocError>
+// The text of an answer in this form.
+fn text_of(alloc: Global, form: ReplyForm, answer: Answer) -> Result<Vec<u8>, AllocError>
     requires { HasEnd answer.kind answer.end }
-    ensures { IfOk result (λ text. text.items ≡ answer_text (answer_of answer)) }
+    ensures { IfOk result (λ text. text.items ≡ answer_text form (answer_of answer)) }
 {
     let Answer { kind, output, end } = answer;
-    reply_text(alloc, &kind, &output, end.as_ref())
+    text_in(alloc, form, &kind, &output, end.as_ref())
 }
 
 // The text of the reply to a line.
@@ -80,17 +81,19 @@ fn reply<H: Threads + Wait + Sync, R: Runner>(
     rt: &H,
     alloc: Global,
     runner: &mut R,
+    form: ReplyForm,
     cache: &mut Cache<R::Entry>,
     line: &[u8],
 ) -> Result<Vec<u8>, AllocError>
     requires exact { IsExact R.Entry.meaning }
     requires stands { Stands (R.runs (R.subject runner.old)) cache.old }
     requires count { cache.old.inserted < 2 ^ 64 - 1 }
-    ensures text { IfOk result (λ text. IsReplyTo (admits_by R.Entry.meaning R.Entry.test) (R.runs (R.subject runner.old)) cache.old line.now cache.new text.items (R.counts runner.old) (R.counts runner.new)) }
+    ensures text { IfOk result (λ text. IsReplyTo form (admits_by R.Entry.meaning R.Entry.test) (R.runs (R.subject runner.old)) cache.old line.now cache.new text.items (R.counts runner.old) (R.counts runner.new)) }
     ensures stays { R.subject runner.new ≡ R.subject runner.old }
 {
     let answer = answer_line(rt, alloc, runner, cache, line)?;
-    let text = text_of(alloc, answer)?;
+    // In two lines for the proof: see docs/CONTRIBUTING.md.
+    let text = text_of(alloc, form, answer)?;
     Ok(text)
 }
 
@@ -99,22 +102,23 @@ pub(crate) fn end_line<H: Threads + Wait + Sync, R: Runner, K: Sink>(
     rt: &H,
     alloc: Global,
     runner: &mut R,
+    form: ReplyForm,
     session: &mut Session<R::Entry>,
     out: &mut K,
 ) -> Result<(), ReplyFault>
     requires exact { IsExact R.Entry.meaning }
     requires stands { Stands (R.runs (R.subject runner.old)) session.old.cache }
     requires count { session.old.cache.inserted < 2 ^ 64 - 1 }
-    ensures answered { OnOk result (Answered (admits_by R.Entry.meaning R.Entry.test) (R.runs (R.subject runner.old)) session.old.cache (input_of session.old.line.items ∷ [])
+    ensures answered { OnOk result (Answered form (admits_by R.Entry.meaning R.Entry.test) (R.runs (R.subject runner.old)) session.old.cache (input_of session.old.line.items ∷ [])
         session.new.cache (told (K.taken out.old) (R.counts runner.old)) (told (K.taken out.new) (R.counts runner.new))) }
-    ensures cut { OnErr result (CutShort (admits_by R.Entry.meaning R.Entry.test)
+    ensures cut { OnErr result (CutShort form (admits_by R.Entry.meaning R.Entry.test)
         (R.runs (R.subject runner.old)) session.old.cache (input_of session.old.line.items ∷ []) (K.taken out.old) (K.taken out.new)) }
     ensures line { OnOk result (session.new.line.items ≡ []) }
     ensures cause { IsErrOf result ReplyFault.WriteFault → Rose (K.faults out.old) (K.faults out.new) }
     ensures count_stays { IsErrOf result ReplyFault.WriteFault ⊎ (K.faults out.new ≡ K.faults out.old) }
     ensures stays { R.subject runner.new ≡ R.subject runner.old }
 {
-    let text = reply(rt, alloc, runner, &mut session.cache, &session.line)?;
+    let text = reply(rt, alloc, runner, form, &mut session.cache, &session.line)?;
     session.line.clear();
     write_all(out, &text)?;
     Ok(())
@@ -136,6 +140,7 @@ pub(crate) fn take_piece<H: Threads + Wait + Sync, R: Runner, K: Sink>(
     rt: &H,
     alloc: Global,
     runner: &mut R,
+    form: ReplyForm,
     session: &mut Session<R::Entry>,
     piece: &[u8],
     out: &mut K,
@@ -144,9 +149,9 @@ pub(crate) fn take_piece<H: Threads + Wait + Sync, R: Runner, K: Sink>(
     requires stands { Stands (R.runs (R.subject runner.old)) session.old.cache }
     requires count { session.old.cache.inserted + length piece.now < 2 ^ 64 - 1 }
     requires line { length session.old.line.items ≤ LINE_LIMIT + 1 }
-    ensures answered { OnOk result (Answered (admits_by R.Entry.meaning R.Entry.test) (R.runs (R.subject runner.old)) session.old.cache (inputs_after session.old.line.items piece.now)
+    ensures answered { OnOk result (Answered form (admits_by R.Entry.meaning R.Entry.test) (R.runs (R.subject runner.old)) session.old.cache (inputs_after session.old.line.items piece.now)
         session.new.cache (told (K.taken out.old) (R.counts runner.old)) (told (K.taken out.new) (R.counts runner.new))) }
-    ensures cut { OnErr result (CutShort (admits_by R.Entry.meaning R.Entry.test)
+    ensures cut { OnErr result (CutShort form (admits_by R.Entry.meaning R.Entry.test)
         (R.runs (R.subject runner.old)) session.old.cache (inputs_after session.old.line.items piece.now) (K.taken out.old) (K.taken out.new)) }
     ensures line { OnOk result (session.new.line.items ≡ begun_after session.old.line.items piece.now) }
     ensures cause { IsErrOf result ReplyFault.WriteFault → Rose (K.faults out.old) (K.faults out.new) }
@@ -155,7 +160,7 @@ pub(crate) fn take_piece<H: Threads + Wait + Sync, R: Runner, K: Sink>(
 {
     for byte in piece {
         if *byte == b'\n' {
-            end_line(rt, alloc, runner, session, out)?;
+            end_line(rt, alloc, runner, form, session, out)?;
         } else {
             keep(&mut session.line, *byte)?;
         }

@@ -71,6 +71,7 @@ pub fn load(alloc: Global, p: &Program, book: &Book) -> Result<Cache<Entry>, Loa
 {
     let mut cache = Cache::new(alloc, CACHE_LIMIT)?;
     let entries = book.entries.as_slice();
+    // The label is for the proof: see docs/CONTRIBUTING.md.
     'entries: for place in 0..entries.len() {
         let made = loaded(alloc, p, &entries[place]);
         match made {

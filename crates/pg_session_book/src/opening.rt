@@ -52,6 +52,7 @@ fn unread(
     match fault {
         BookFault::OutOfMemory => Err(AllocError),
         _ => {
+            // In two lines for the proof: see docs/CONTRIBUTING.md.
             let opened = refused_book(alloc, BookRefusal::Read(fault))?;
             Ok(opened)
         }
@@ -74,6 +75,7 @@ fn unloaded(
     match refusal {
         LoadRefusal::OutOfMemory => Err(AllocError),
         LoadRefusal::Entry(number, fault) => {
+            // In two lines for the proof: see docs/CONTRIBUTING.md.
             let opened = refused_book(alloc, BookRefusal::Entry(number, fault))?;
             Ok(opened)
         }

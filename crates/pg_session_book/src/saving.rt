@@ -41,6 +41,7 @@ pub fn book_of(alloc: Global, kept: &Cache<Entry>) -> Result<Book, AllocError>
 {
     let mut entries = Vec::new(alloc);
     let held = kept.values();
+    // The label is for the proof: see docs/CONTRIBUTING.md.
     'held: for place in 0..held.len() {
         let entry = saved(alloc, &held[place])?;
         entries.push(entry)?;
@@ -58,6 +59,7 @@ pub fn saved_book(alloc: Global, kept: &Cache<Entry>) -> Result<Vec<u8>, AllocEr
     ensures { IfOk result (λ text. IsSaved kept.now.values text.items) }
 {
     let book = book_of(alloc, kept)?;
+    // In two lines for the proof: see docs/CONTRIBUTING.md.
     let text = write_book(alloc, &book)?;
     Ok(text)
 }

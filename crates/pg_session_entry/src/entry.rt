@@ -72,6 +72,13 @@ impl Entry {
         &self.decisions
     }
 
+    /// What an input must give so that the schedule serves it.
+    pub fn precondition(&self) -> &Precondition
+        ensures { result.now ≡ self.now.precondition }
+    {
+        &self.precondition
+    }
+
     /// The instruction of each step of the guided run.
     pub fn ids(&self) -> &[InstrId]
         ensures { result.now ≡ self.now.ids }

@@ -1,4 +1,5 @@
 //! Entries: what is kept of a recorded run, so that its schedule serves other inputs.
+// How goals are searched for: see docs/CONTRIBUTING.md.
 #![tactic(auto)]
 
 mod entry;

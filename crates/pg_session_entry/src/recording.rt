@@ -60,6 +60,7 @@ fn entry_of(
     let races = races(alloc, trace)?;
     let schedule = hybrid(alloc, trace, races.as_slice())?;
     followed(alloc, p, input, &schedule, trace)?;
+    // In two lines for the proof: see docs/CONTRIBUTING.md.
     let entry = entry_along(alloc, p, input, trace, schedule, races)?;
     Ok(entry)
 }
@@ -111,6 +112,7 @@ pub fn from_recorded(
 {
     let Recorded { trace, output, end } = r;
     let mut trace = trace;
+    // In two lines for the proof: see docs/CONTRIBUTING.md.
     let made = record_of(alloc, p, input, &mut trace, Ended { output, end })?;
     Ok(made)
 }
@@ -130,6 +132,7 @@ pub fn record(alloc: Global, p: &Program, input: &[i64], quantum: u32) -> Result
     a_rotation_is_a_run();
     let mut trace = Trace::with_room(alloc, RECORDING_STEP_LIMIT as usize)?;
     let ended = rotate_into(alloc, p, input, quantum, &mut trace)?;
+    // In two lines for the proof: see docs/CONTRIBUTING.md.
     let made = record_of(alloc, p, input, &mut trace, ended)?;
     Ok(made)
 }

@@ -38,6 +38,7 @@ fn replayed(
     p.facts();
     replays_have_edges();
     let sums = summaries(alloc, p, gated)?;
+    // In two lines for the proof: see docs/CONTRIBUTING.md.
     let replay = reference(alloc, p, input, t, gated, sums.as_slice())?;
     Ok(replay)
 }
@@ -63,6 +64,7 @@ fn sliced(
         intervals: intervals.as_slice(),
         r: &replay,
     };
+    // In two lines for the proof: see docs/CONTRIBUTING.md.
     let found = slice(alloc, &run)?;
     Ok(found)
 }

@@ -12,11 +12,11 @@ use Rattle.pg_law_reuse.specs.pg_law_runs.Cuts.{CanRun}
 use Rattle.pg_law_reuse.specs.pg_law_order.Served.{guided_along}
 use Rattle.pg_law_reuse.specs.Entries.{AreAlike, EntryParts, IsEntry}
 use Rattle.pg_law_reuse.proofs.EntriesOfOneRun.{one_entry}
-use Rattle.pg_session_texts.specs.declared.reply.EndLine.{EndLine}
-use Rattle.pg_session_texts.specs.declared.reply.EndLine.TheVariants as ends
-use Rattle.pg_session_texts.specs.declared.reply.ReplyKind.{ReplyKind}
-use Rattle.pg_session_texts.specs.declared.reply.ReplyKind.TheVariants.{Recorded, Reused}
-use Rattle.pg_session_texts.specs.Replies.{kind_of}
+use Rattle.pg_session.specs.pg_session_texts.declared.reply.EndLine.{EndLine}
+use Rattle.pg_session.specs.pg_session_texts.declared.reply.EndLine.TheVariants as ends
+use Rattle.pg_session.specs.pg_session_texts.declared.reply.ReplyKind.{ReplyKind}
+use Rattle.pg_session.specs.pg_session_texts.declared.reply.ReplyKind.TheVariants.{Recorded, Reused}
+use Rattle.pg_session.specs.pg_session_texts.Replies.{kind_of}
 use Rattle.pg_session.specs.Sessions.{Answer, Answers, AnswersAll, AnswersLine, found}
 use Rattle.pg_session.specs.Sessions.Answers.{by_reuse, by_recording, by_refusal, by_untested}
 use Rattle.pg_session_runner.specs.Runs.{IsKept, end_line_of, entry_admits, rotating, runs_by}

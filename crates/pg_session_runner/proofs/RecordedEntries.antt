@@ -3,11 +3,11 @@ use Rattle.std.proofs.Common.{◌≡◌, ℕ, ℤ, zero, suc, ◌+◌, Bool, con
 use Rattle.std.specs.Prelude.{count_by, slice_get}
 use Rattle.std.proofs.lemmas.List.Sums.{sum_by-cons}
 use Rattle.pg_cache.specs.Kept.{Kept}
-use Rattle.pg_session_texts.specs.declared.reply.ReplyKind.{ReplyKind}
-use Rattle.pg_session_texts.specs.declared.reply.ReplyKind.TheVariants.{Recorded, Reused, RefusedLine, RefusedUntested}
+use Rattle.pg_session.specs.pg_session_texts.declared.reply.ReplyKind.{ReplyKind}
+use Rattle.pg_session.specs.pg_session_texts.declared.reply.ReplyKind.TheVariants.{Recorded, Reused, RefusedLine, RefusedUntested}
 use Rattle.pg_go.specs.pg_run.declared.outcome.Refusal.{Refusal}
 use Rattle.pg_go.specs.pg_run.declared.outcome.Refusal.TheVariants as refusals
-use Rattle.pg_session_texts.specs.Replies.{kind_of}
+use Rattle.pg_session.specs.pg_session_texts.Replies.{kind_of}
 use Rattle.pg_session.specs.Sessions.{Answer, AnswersAll, AnswersLine, Runs, by_recording, by_refusal, by_reuse, by_untested}
 use Rattle.pg_session_runner.proofs.ReusedEntries.{Replied, inserts, is_new, none_answered, replied_behind, same_value, told_so}
 

@@ -25,7 +25,7 @@ use Rattle.pg_go.specs.pg_run.State.{State, initial}
 use Rattle.pg_go.proofs.of_pg_run.StepsBegin.{ready_made}
 use Rattle.pg_go.proofs.of_pg_law_effects.ThreadLimits.{FewThreads, few_initial, few_step}
 use Rattle.pg_law_reuse.specs.Entries.{EntryParts, IsEntry}
-use Rattle.pg_session_texts.specs.declared.reply.EndLine.{EndLine}
+use Rattle.pg_session.specs.pg_session_texts.declared.reply.EndLine.{EndLine}
 use Rattle.pg_session.specs.Sessions.{Answer, Answers, AnswersAll, AnswersLine}
 use Rattle.pg_session.specs.Sessions.Answers.{by_reuse, by_recording, by_refusal, by_untested}
 use Rattle.pg_session_runner.specs.Limits.{AreWithinLimits, Ascend, HasFewNumbers, IsWithinLimits}

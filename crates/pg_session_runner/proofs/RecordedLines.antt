@@ -17,8 +17,8 @@ use Rattle.pg_go.specs.pg_run.Recordings.{IsRecording}
 use Rattle.pg_go.specs.pg_run.Rotation.{rotation_of}
 use Rattle.pg_go.specs.pg_run.Runs.{events}
 use Rattle.pg_go.specs.pg_run.State.{State, exit_value_of, next_of}
-use Rattle.pg_session_texts.specs.declared.reply.EndLine.{EndLine}
-use Rattle.pg_session_texts.specs.declared.reply.ReplyKind.TheVariants.{Recorded}
+use Rattle.pg_session.specs.pg_session_texts.declared.reply.EndLine.{EndLine}
+use Rattle.pg_session.specs.pg_session_texts.declared.reply.ReplyKind.TheVariants.{Recorded}
 use Rattle.pg_law_reuse.specs.Entries.{EntryParts}
 use Rattle.pg_law_reuse.specs.pg_law_order.Served.{EndsAsGuided, guided_along}
 use Rattle.pg_law_reuse.proofs.of_pg_law_order.ExitsHaveAllTurns.{exits_with}

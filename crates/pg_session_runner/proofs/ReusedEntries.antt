@@ -4,12 +4,12 @@ use Rattle.std.proofs.Common.{take, Option, Some, None, refl, sym, ap, ◌∙◌
 use Rattle.std.specs.Prelude.{count_by, slice_get}
 use Rattle.std.proofs.lemmas.List.Sums.{sum_by-cons}
 use Rattle.pg_cache.specs.Kept.{Kept, value_of}
-use Rattle.pg_session_texts.specs.declared.reply.EndLine.{EndLine}
-use Rattle.pg_session_texts.specs.declared.reply.ReplyKind.{ReplyKind}
-use Rattle.pg_session_texts.specs.declared.reply.ReplyKind.TheVariants.{Recorded, Reused, RefusedLine, RefusedUntested}
+use Rattle.pg_session.specs.pg_session_texts.declared.reply.EndLine.{EndLine}
+use Rattle.pg_session.specs.pg_session_texts.declared.reply.ReplyKind.{ReplyKind}
+use Rattle.pg_session.specs.pg_session_texts.declared.reply.ReplyKind.TheVariants.{Recorded, Reused, RefusedLine, RefusedUntested}
 use Rattle.pg_go.specs.pg_run.declared.outcome.Refusal.{Refusal}
 use Rattle.pg_go.specs.pg_run.declared.outcome.Refusal.TheVariants as refusals
-use Rattle.pg_session_texts.specs.Replies.{kind_of}
+use Rattle.pg_session.specs.pg_session_texts.Replies.{kind_of}
 use Rattle.pg_session.specs.Sessions.{Answer, AnswersAll, AnswersLine, Runs, by_recording, by_refusal, by_reuse, by_untested}
 use Rattle.pg_session.specs.Trials.{is_recorded}
 use Rattle.pg_session.proofs.KeptEntries.{kept_value}

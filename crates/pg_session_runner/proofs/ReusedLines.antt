@@ -9,8 +9,8 @@ use Rattle.pg_go.specs.pg_run.declared.guided_end.GuidedEnd.{GuidedEnd}
 use Rattle.pg_go.specs.pg_run.Permitted.{full_end}
 use Rattle.pg_go.specs.pg_run.Runs.{events}
 use Rattle.pg_go.specs.pg_run.State.{State}
-use Rattle.pg_session_texts.specs.declared.reply.EndLine.{EndLine}
-use Rattle.pg_session_texts.specs.declared.reply.ReplyKind.TheVariants.{Reused}
+use Rattle.pg_session.specs.pg_session_texts.declared.reply.EndLine.{EndLine}
+use Rattle.pg_session.specs.pg_session_texts.declared.reply.ReplyKind.TheVariants.{Reused}
 use Rattle.pg_law_reuse.specs.Entries.{EntryParts}
 use Rattle.pg_law_reuse.specs.pg_law_order.Served.{EndsAsGuided, RunsAsGuided, guided_along}
 use Rattle.pg_session.specs.Sessions.{Answer, AnswersAll, opened}

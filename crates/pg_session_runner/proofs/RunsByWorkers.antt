@@ -5,7 +5,7 @@ use Rattle.pg_go.specs.pg_ir.Program.{NumberedProgram}
 use Rattle.pg_go.specs.pg_run.declared.guided_end.GuidedEnd.TheVariants as ends
 use Rattle.pg_law_reuse.specs.Entries.{EntryParts}
 use Rattle.pg_law_reuse.specs.pg_law_order.Served.{IsServed, guided_along}
-use Rattle.pg_session_texts.specs.declared.reply.EndLine.{EndLine}
+use Rattle.pg_session.specs.pg_session_texts.declared.reply.EndLine.{EndLine}
 use Rattle.pg_session_runner.specs.Runs.{RunsAlong, end_line_of}
 
 module _ (p : NumberedProgram) (input : List ℤ) (e : EntryParts) (g : Given) (same : g ≡ given p e.schedule input) (served : IsServed p input e.schedule) where

@@ -6,9 +6,10 @@ use Rattle.pg_cache.specs.Kept.{Kept, value_of}
 use Rattle.pg_go.specs.pg_ir.Program.{NumberedProgram}
 use Rattle.pg_law_reuse.specs.pg_law_order.Served.{guided_along}
 use Rattle.pg_law_reuse.specs.Entries.{EntryParts}
-use Rattle.pg_session_texts.specs.declared.reply.EndLine.{EndLine}
-use Rattle.pg_session_texts.specs.declared.reply.ReplyKind.{ReplyKind}
-use Rattle.pg_session_texts.specs.declared.reply.ReplyKind.TheVariants.{Reused, RefusedUntested}
+use Rattle.pg_session.specs.pg_session_texts.declared.reply.EndLine.{EndLine}
+use Rattle.pg_session.specs.pg_session_texts.declared.reply.ReplyKind.{ReplyKind}
+use Rattle.pg_session.specs.pg_session_texts.declared.reply.ReplyKind.TheVariants.{Reused, RefusedUntested}
+use Rattle.pg_session.specs.pg_session_texts.declared.forms.ReplyForm.{ReplyForm}
 use Rattle.pg_session.specs.Sessions.{Answer, Answers, AnswersAll, AnswersLine, IsSessionText, answer_text}
 use Rattle.pg_session.specs.Sessions.Answers.{by_reuse, by_recording, by_refusal, by_untested}
 use Rattle.pg_session_runner.specs.Runs.{end_line_of, entry_admits, runs_by, tested}
@@ -141,13 +142,13 @@ module _ (p : NumberedProgram) (first : Kept EntryParts) where
         (joined xs ys h.rest replies kept last (others x xs answers kept h) g);
   }
 
-  pub parts : (xs ys : List (Option (List ℤ))) (text before behind : List ℕ) → IsSessionText entry_admits (runs_by p tested) first (xs ++ ys) text
-      → IsSessionText entry_admits (runs_by p tested) first xs before → IsSessionText entry_admits (runs_by p tested) first ys behind → text ≡ before ++ behind
-  parts xs ys text before behind h i j =
+  pub parts : {form : ReplyForm} (xs ys : List (Option (List ℤ))) (text before behind : List ℕ) → IsSessionText form entry_admits (runs_by p tested) first (xs ++ ys) text
+      → IsSessionText form entry_admits (runs_by p tested) first xs before → IsSessionText form entry_admits (runs_by p tested) first ys behind → text ≡ before ++ behind
+  parts {form} xs ys text before behind h i j =
       let same = one_session (xs ++ ys) h.answers (i.answers ++ j.answers) h.kept j.kept h.session (joined xs ys i.answers j.answers i.kept j.kept i.session j.session) in
-      h.whole ∙ ap (λ (l : List Answer). flat_map answer_text l) same ∙ flat_map-append answer_text i.answers j.answers
-      ∙ ap (λ (t : List ℕ). t ++ flat_map answer_text j.answers) (sym i.whole) ∙ ap (λ (t : List ℕ). before ++ t) (sym j.whole)
+      h.whole ∙ ap (λ (l : List Answer). flat_map (answer_text form) l) same ∙ flat_map-append (answer_text form) i.answers j.answers
+      ∙ ap (λ (t : List ℕ). t ++ flat_map (answer_text form) j.answers) (sym i.whole) ∙ ap (λ (t : List ℕ). before ++ t) (sym j.whole)
 
-  pub one_text : (inputs : List (Option (List ℤ))) (text other : List ℕ) → IsSessionText entry_admits (runs_by p tested) first inputs text
-      → IsSessionText entry_admits (runs_by p tested) first inputs other → text ≡ other
-  one_text inputs text other h i = h.whole ∙ ap (λ (l : List Answer). flat_map answer_text l) (one_session inputs h.answers i.answers h.kept i.kept h.session i.session) ∙ sym i.whole
+  pub one_text : {form : ReplyForm} (inputs : List (Option (List ℤ))) (text other : List ℕ) → IsSessionText form entry_admits (runs_by p tested) first inputs text
+      → IsSessionText form entry_admits (runs_by p tested) first inputs other → text ≡ other
+  one_text {form} inputs text other h i = h.whole ∙ ap (λ (l : List Answer). flat_map (answer_text form) l) (one_session inputs h.answers i.answers h.kept i.kept h.session i.session) ∙ sym i.whole

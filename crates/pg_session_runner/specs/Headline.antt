@@ -10,8 +10,8 @@ use Rattle.pg_go.specs.pg_run.Runs.{events}
 use Rattle.pg_go.specs.pg_run.State.{State}
 use Rattle.pg_law_reuse.specs.pg_law_runs.Cuts.{CanStep, IsOrderedAlong}
 use Rattle.pg_law_reuse.specs.pg_law_order.Good.{run_along}
-use Rattle.pg_session_texts.specs.declared.reply.EndLine.{EndLine}
-use Rattle.pg_session_texts.specs.declared.reply.ReplyKind.TheVariants.{Recorded, Reused}
+use Rattle.pg_session.specs.pg_session_texts.declared.reply.EndLine.{EndLine}
+use Rattle.pg_session.specs.pg_session_texts.declared.reply.ReplyKind.TheVariants.{Recorded, Reused}
 use Rattle.pg_law_reuse.specs.Entries.{EntryParts}
 use Rattle.pg_law_reuse.specs.pg_law_order.Served.{IsServed, guided_along}
 use Rattle.pg_session.specs.Sessions.{Answer}

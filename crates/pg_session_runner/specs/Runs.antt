@@ -12,9 +12,10 @@ use Rattle.pg_go.specs.pg_run.Rotation.{rotation_of}
 use Rattle.pg_go.specs.pg_run.State.{State}
 use Rattle.pg_go.specs.pg_run_trace.declared.step.Step.{Step}
 use Rattle.pg_law_reuse.specs.pg_law_runs.Cuts.{CanRun}
-use Rattle.pg_session_texts.specs.declared.reply.EndLine.{EndLine}
-use Rattle.pg_session_texts.specs.declared.reply.EndLine.TheVariants as ends
-use Rattle.pg_session_texts.specs.Shows.{show_text}
+use Rattle.pg_session.specs.pg_session_texts.ConditionTexts.{conditions_text}
+use Rattle.pg_session.specs.pg_session_texts.declared.reply.EndLine.{EndLine}
+use Rattle.pg_session.specs.pg_session_texts.declared.reply.EndLine.TheVariants as ends
+use Rattle.pg_session.specs.pg_session_texts.Shows.{show_text}
 use Rattle.pg_law_reuse.specs.Entries.{EntryParts, IsEntry, IsEntryOfTurns}
 use Rattle.pg_law_reuse.specs.pg_law_order.Served.{IsServed, guided_along}
 use Rattle.pg_go.specs.pg_run.declared.outcome.Refusal.{Refusal}
@@ -131,3 +132,7 @@ exit_value (ends.Budget thread turns) = pos 0
 -- the text of `show` for an entry, with what was printed and how the run along its schedule ended
 abbrev pub shown : EntryParts → List ℕ → EndLine → List ℕ
 shown entry output end = show_text entry.schedule entry.ids entry.pinned entry.exact entry.races output (exit_value end)
+
+-- the text of `conditions` for an entry: its precondition, whatever the run along its schedule printed and however that ended
+abbrev pub conditions_of : EntryParts → List ℕ → EndLine → List ℕ
+conditions_of entry output end = conditions_text entry.precondition

@@ -2,8 +2,8 @@
 use Rattle.std.specs.Prelude.{◌≡◌, ℕ, ℤ, List, [], Option, Some, None}
 use Rattle.pg_cache.specs.Kept.{Kept, value_of}
 use Rattle.pg_go.specs.pg_ir.Program.{NumberedProgram}
-use Rattle.pg_session_texts.specs.declared.reply.EndLine.{EndLine}
-use Rattle.pg_session_texts.specs.declared.reply.ReplyKind.TheVariants.{Reused, RefusedUntested}
+use Rattle.pg_session.specs.pg_session_texts.declared.reply.EndLine.{EndLine}
+use Rattle.pg_session.specs.pg_session_texts.declared.reply.ReplyKind.TheVariants.{Reused, RefusedUntested}
 use Rattle.pg_law_reuse.specs.Entries.{EntryParts}
 use Rattle.pg_session.specs.Sessions.{Answer, found, refused_line}
 use Rattle.pg_session_runner.specs.Runs.{RunsAlong, entry_admits}

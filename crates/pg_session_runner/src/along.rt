@@ -20,6 +20,7 @@ use std::thread::Threads;
 fn own_input_is_small(entry: &Entry)
     ensures { length entry.now.input < 2 ^ 64 }
 {
+    // Called for the proof: see docs/CONTRIBUTING.md.
     let _ = entry.input().len();
 }
 

@@ -14,7 +14,7 @@ use pg_go::pg_run_trace::Schedule;
 use pg_go::{Crew, Ended, Prepared, Room, prepare_in};
 use pg_law_reuse::Entry;
 use pg_session::Run;
-use pg_session_texts::EndLine;
+use pg_session::pg_session_texts::EndLine;
 use std::alloc::{AllocError, Global};
 use std::marker::Model;
 use std::thread::Threads;
@@ -107,6 +107,7 @@ fn ran<R: Threads + Sync, C: Crew + Drop>(rt: &R, run: Prepared<'_>, crew: &mut 
         (guided_along run.entry.program run.entry.input run.entry.schedule).end ≡ Some result.0.end }
     ensures counted { RoseBy (turns_of (Some result.0.end)) (C.turns crew.old) (C.turns crew.new) }
 {
+    // Called for the proof: see docs/CONTRIBUTING.md.
     let _count = crew.count();
     let (ended, room) = run.go_on(rt, crew);
     (run_of(ended), room)

@@ -7,8 +7,9 @@ ghost use Rattle.pg_go.specs.pg_run_trace.declared.step.Step.{Step};
 ghost use Rattle.pg_go.specs.pg_run.State.{State};
 ghost use Rattle.pg_law_reuse.specs.pg_law_runs.Cuts.{CanRun};
 ghost use Rattle.pg_law_reuse.specs.pg_law_runs.LastTurns.{IsRecorded};
-ghost use Rattle.pg_session_texts.specs.declared.reply.EndLine.{EndLine};
-ghost use Rattle.pg_session_texts.specs.declared.reply.ReplyKind.TheVariants.{Recorded, Reused};
+ghost use Rattle.pg_session.specs.pg_session_texts.declared.reply.EndLine.{EndLine};
+ghost use Rattle.pg_session.specs.pg_session_texts.declared.reply.ReplyKind.TheVariants.{Recorded, Reused};
+ghost use Rattle.pg_session.specs.pg_session_texts.declared.forms.ReplyForm.{ReplyForm};
 ghost use Rattle.pg_law_reuse.specs.Entries.{EntryParts, IsEntry};
 ghost use Rattle.pg_law_reuse.specs.pg_law_order.Good.{IsGoodRun};
 ghost use Rattle.pg_law_reuse.specs.pg_law_order.Served.{IsServed};
@@ -72,13 +73,13 @@ pub fn each_recorded_line_is_served()
     a_rotation_is_a_run();
 }
 
-/// A session whose recordings are made in rotation has one text: its program and its quantum, what it keeps at first, and the
+/// A session whose recordings are made in rotation has one text in each form: its program and its quantum, what it keeps at first, and the
 /// inputs of its lines settle each answer. The premise is that the program can run on each input.
 pub fn a_session_in_rotation_has_one_text()
-    ensures { (p : NumberedProgram) (quantum : ℕ) (first : Kept EntryParts) (inputs : List (Option (List ℤ))) (text other : List ℕ)
+    ensures { (form : ReplyForm) (p : NumberedProgram) (quantum : ℕ) (first : Kept EntryParts) (inputs : List (Option (List ℤ))) (text other : List ℕ)
         → ((input : List ℤ) → Contains inputs (Some input) → CanRun p input)
-        → IsSessionText entry_admits (runs_by p (rotating quantum)) first inputs text
-        → IsSessionText entry_admits (runs_by p (rotating quantum)) first inputs other → text ≡ other }
+        → IsSessionText form entry_admits (runs_by p (rotating quantum)) first inputs text
+        → IsSessionText form entry_admits (runs_by p (rotating quantum)) first inputs other → text ≡ other }
 {}
 
 /// A session that records nothing keeps its first entries, and answers each line by one of these that admits it, or refuses it. The
@@ -95,12 +96,12 @@ pub fn a_tested_session_answers_each_line_alone()
         → AnswersAll entry_admits (runs_by p tested) first inputs answers kept → AnswersAll entry_admits (runs_by p tested) first others replies last
         → (line place : ℕ) (input : Option (List ℤ)) → slice_get inputs line ≡ Some input → slice_get others place ≡ Some input
         → slice_get answers line ≡ slice_get replies place }
-    ensures parts { (p : NumberedProgram) (first : Kept EntryParts) (inputs others : List (Option (List ℤ))) (text before behind : List ℕ)
-        → IsSessionText entry_admits (runs_by p tested) first (inputs ++ others) text
-        → IsSessionText entry_admits (runs_by p tested) first inputs before → IsSessionText entry_admits (runs_by p tested) first others behind
+    ensures parts { (form : ReplyForm) (p : NumberedProgram) (first : Kept EntryParts) (inputs others : List (Option (List ℤ))) (text before behind : List ℕ)
+        → IsSessionText form entry_admits (runs_by p tested) first (inputs ++ others) text
+        → IsSessionText form entry_admits (runs_by p tested) first inputs before → IsSessionText form entry_admits (runs_by p tested) first others behind
         → text ≡ before ++ behind }
-    ensures one_text { (p : NumberedProgram) (first : Kept EntryParts) (inputs : List (Option (List ℤ))) (text other : List ℕ)
-        → IsSessionText entry_admits (runs_by p tested) first inputs text → IsSessionText entry_admits (runs_by p tested) first inputs other → text ≡ other }
+    ensures one_text { (form : ReplyForm) (p : NumberedProgram) (first : Kept EntryParts) (inputs : List (Option (List ℤ))) (text other : List ℕ)
+        → IsSessionText form entry_admits (runs_by p tested) first inputs text → IsSessionText form entry_admits (runs_by p tested) first inputs other → text ≡ other }
 {}
 
 /// What a session keeps at its end is within the limits of a book, where its first entries are and its lines have few numbers.

@@ -1,7 +1,9 @@
 //! Records the runs of a program, and runs it along the schedules of its entries: what a session asks of a program.
+// How goals are searched for: see docs/CONTRIBUTING.md.
 #![tactic(auto)]
 
 mod along;
+mod conditions;
 mod crew_in_room;
 pub mod laws;
 mod loading;
@@ -9,6 +11,7 @@ mod recording;
 mod runner;
 mod shows;
 
+pub use conditions::{conditions_freely, conditions_in_rotation};
 pub use loading::{LoadFault, load_turns};
 pub use pg_cache;
 pub use pg_free;

@@ -44,6 +44,7 @@ fn names_access(p: &Program, id: InstrId) -> bool
 fn are_accesses(p: &Program, gated: &[InstrId]) -> bool
     ensures { result ≡ are_accesses p.now gated.now }
 {
+    // The label is for the proof: see docs/CONTRIBUTING.md.
     'ids: for place in 0..gated.len() {
         if !names_access(p, gated[place]) {
             return false;

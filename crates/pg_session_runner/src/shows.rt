@@ -3,7 +3,7 @@ ghost use Rattle.std.specs.Prelude.{◌≡◌, ◌≤◌, ◌<◌, ℤ, List, le
 ghost use Rattle.pg_go.specs.pg_num.declared.limits.TheConstants.{NUMBERS_LIMIT, QUANTUM_LIMIT};
 ghost use Rattle.pg_go.specs.pg_ir.Program.{NumberedProgram};
 ghost use Rattle.pg_law_reuse.specs.pg_law_runs.Cuts.{CanRun};
-ghost use Rattle.pg_session_texts.specs.Replies.{kind_of, reply_text};
+ghost use Rattle.pg_session.specs.pg_session_texts.Replies.{kind_of, reply_text};
 ghost use Rattle.pg_session.specs.Counts.{RoseBy};
 ghost use Rattle.pg_session.specs.Recordings.{ComesOfRecording};
 ghost use Rattle.pg_session.specs.Shows.{IsShowText};
@@ -14,8 +14,8 @@ use pg_free::FreeCrew;
 use pg_go::pg_ir::Program;
 use pg_go::pg_run::Refusal;
 use pg_law_reuse::Entry;
+use pg_session::pg_session_texts::{EndLine, ReplyKind, reply_text, show_text};
 use pg_session::{Recording, Run};
-use pg_session_texts::{EndLine, ReplyKind, reply_text, show_text};
 use std::alloc::{AllocError, Global};
 use std::sync::Wait;
 use std::thread::Threads;
@@ -49,7 +49,11 @@ fn entry_text(alloc: Global, entry: &Entry, run: &Run) -> Result<Vec<u8>, AllocE
 }
 
 /// The reply to an input that isn't kept, of which this was printed.
-fn refusal_text(alloc: Global, refusal: Refusal, output: &[u8]) -> Result<Vec<u8>, AllocError>
+pub(crate) fn refusal_text(
+    alloc: Global,
+    refusal: Refusal,
+    output: &[u8],
+) -> Result<Vec<u8>, AllocError>
     ensures { IfOk result (λ text. text.items ≡ reply_text (kind_of refusal) output.now None) }
 {
     reply_text(alloc, &ReplyKind::from(refusal), output, None)

@@ -1,1 +1,5 @@
 pub mod Joined
+pub mod Keys
+pub mod Members
+pub mod NodeLists
+pub mod OneLine

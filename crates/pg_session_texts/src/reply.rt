@@ -81,7 +81,7 @@ fn end_line(alloc: Global, end: EndLine) -> Result<String, AllocError>
 }
 
 /// The end itself, if there is one.
-fn copied(end: Option<&EndLine>) -> Option<EndLine>
+pub(crate) fn copied(end: Option<&EndLine>) -> Option<EndLine>
     ensures { result ≡ option_map (λ e. e.now) end.entry }
 {
     match end {

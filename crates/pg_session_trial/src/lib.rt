@@ -1,4 +1,5 @@
 //! The trial: its program, and its lines of input.
+// How goals are searched for: see docs/CONTRIBUTING.md.
 #![tactic(auto)]
 
 pub mod laws;

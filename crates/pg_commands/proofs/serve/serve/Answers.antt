@@ -51,4 +51,4 @@ returns-clause-ends g c =
     rw c.status_of.ensures (serve_ended _ _ _ _ _ _ c.a_book_is_opened_or_refused_for_one_reason.ensures.not_both c.in-Ok-Accepted.program c.in-Ok-Entries.first
     (loaded.0, loaded.1, loaded.2.0) (begins_before _ _ (option_map string_bytes c.args.command.now.book) c.in-Ok-Accepted.program c.in-Ok-Entries.first c.in-Ok-Accepted.ensures.texts_stay begun)
     (λ name. stayed _ _ _ (λ e. cc) (c.in-Ok-Entries.ensures.counts name) ∙ stayed _ _ _ (λ e. cc) (c.in-Ok-Accepted.ensures.counts name))
-    c.session.ensures.ends.takes (record { rounds = c.session.ensures.others; turns = inl tt }) _ c.session.ensures.ends)
+    c.session.ensures.ends.takes (record { rounds = c.session.ensures.others; turns = inl tt }) _ (rw c.reply_form.ensures at c.session.ensures.ends))

@@ -15,7 +15,7 @@ serve-ended-requires-clause-stands g c = λ _ _.
 pub returns : goal.returns
 returns g c =
     ends_of (CrewsMake (rounds_told _) _) c.new-runner.result.subject _ _ _ _ _ _ c.new-runner.ensures.program c.new-runner.ensures.way (record {
-      done = done_rounds c.new-runner.result.subject _ _ _ _ _ _ _ _ _
+      done = done_rounds c.args.form c.new-runner.result.subject _ _ _ _ _ _ _ _ _
           (record { first = c.new-runner.ensures.rounds ∙ ap g.G.FreeCrew.rounds c.replace-recorders.ensures.value; last = c.into_crews-crews.ensures.rounds })
           (record { first = c.new-runner.ensures.turns ∙ ap g.C.Crew.turns c.replace-workers.ensures.value; last = c.into_crews-crews.ensures.turns })
           c.serve-ended.ensures.done;

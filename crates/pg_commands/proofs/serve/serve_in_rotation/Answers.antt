@@ -15,7 +15,7 @@ serve-ended-requires-clause-stands g c = λ _ _.
 pub returns : goal.returns
 returns g c =
     ends_of (CrewsMake nothing_told _) c.new-runner.result.subject _ _ _ _ _ _ c.new-runner.ensures.program c.new-runner.ensures.way (record {
-      done = done_plain c.new-runner.result.subject _ _ _ _ _ _ _ _
+      done = done_plain c.args.form c.new-runner.result.subject _ _ _ _ _ _ _ _
           (record { first = c.new-runner.ensures.turns ∙ ap g.C.Crew.turns c.replace.ensures.value; last = c.into_crew.ensures }) c.serve-ended.ensures.done;
       input_limit = c.serve-ended.ensures.input_limit;
       read_fault = c.serve-ended.ensures.read_fault;

@@ -1,6 +1,6 @@
 use Rattle.std.proofs.Common.{inl, inr, string_bytes}
 use Rattle.std.specs.Option.{option_map}
-use Rattle.pg_commands_words.specs.Commands.{book, once, serve, show, trial}
+use Rattle.pg_commands_words.specs.Commands.{book, conditions, once, serve, show, trial}
 use Rattle.pg_commands.specs.Commands.{by_command}
 use Rattle.pg_commands.proofs.session.peregrine.Goals as goal
 
@@ -66,7 +66,14 @@ returns-in-Ok-Some-Serve-clause-fault_keeps_sink g c = λ fault.
       rw c.in-Ok-Some-Serve.field-0-0-is at (rw c.in-Ok-Some-Serve.field-0-is at c.in-Ok-Some-Serve.ensures.some),
     )
 
-pub unreachable-requires : goal.unreachable-requires
-unreachable-requires g c =
+pub returns-in-Ok-Some-Conditions-clause-ends : goal.returns-in-Ok-Some-Conditions-clause-ends
+returns-in-Ok-Some-Conditions-clause-ends g c =
     let means = rw c.in-Ok-Some-Conditions.field-0-0-is at (rw c.in-Ok-Some-Conditions.field-0-is at c.in-Ok-Some-Conditions.ensures.some) in
-    let none = means.offered in cc
+    by_command (conditions (string_bytes c.in-Ok-Some-Conditions.command.file) c.in-Ok-Some-Conditions.command.way c.in-Ok-Some-Conditions.command.numbers.items) means
+    (c.conditions.ensures.ends (g.S.Source.rest c.args.src.now) (g.S.Source.faults c.args.src.now) (g.C.Crew.turns c.args.crew.now))
+
+pub returns-in-Ok-Some-Conditions-clause-usage_calls_nothing : goal.returns-in-Ok-Some-Conditions-clause-usage_calls_nothing
+returns-in-Ok-Some-Conditions-clause-usage_calls_nothing g c = λ e. absurd ((c.conditions.ensures.ends (g.S.Source.rest c.args.src.now) (g.S.Source.faults c.args.src.now) (g.C.Crew.turns c.args.crew.now)).no_usage e)
+
+pub returns-in-Ok-Some-Conditions-clause-fault_keeps_sink : goal.returns-in-Ok-Some-Conditions-clause-fault_keeps_sink
+returns-in-Ok-Some-Conditions-clause-fault_keeps_sink g c = λ fault. inl (c.conditions.ensures.keeps fault)

@@ -1,10 +1,10 @@
 use Rattle.std.proofs.Common.{◌≡◌, ℕ, ℤ, List, refl, [], ◌∷◌, codes, None, arith}
-use Rattle.pg_commands_words.specs.Commands.{IsWritten, once}
+use Rattle.pg_commands_words.specs.Commands.{Means, once}
 use Rattle.pg_commands_words.proofs.Meanings.{one-command, within}
 use Rattle.pg_commands_words.proofs.laws.a_command_has_these_bounds.Goals as goal
 
 -- the word by itself
-alone : IsWritten (codes "once" ∷ []) (once 100 [])
+alone : Means (codes "once" ∷ []) (once 100 [])
 alone = record {
   line = record { pieces = []; end = None };
   spelled = refl;
@@ -17,7 +17,7 @@ same-quantum : (q r : ℕ) (ns ms : List ℤ) → once q ns ≡ once r ms → q 
 same-quantum q r ns ms e = cc
 
 pub returns-clause-alone : goal.returns-clause-alone
-returns-clause-alone c = λ q ns o. same-quantum q 100 ns [] (one-command (codes "once" ∷ []) (once q ns) (once 100 []) o.written alone)
+returns-clause-alone c = λ q ns o. same-quantum q 100 ns [] (one-command (codes "once" ∷ []) (once q ns) (once 100 []) o alone)
 
 pub returns-clause-within : goal.returns-clause-within
-returns-clause-within c = λ words meaning m. within words meaning m.written
+returns-clause-within c = λ words meaning m. within words meaning m

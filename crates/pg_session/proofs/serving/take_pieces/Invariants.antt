@@ -7,7 +7,7 @@ use Rattle.pg_session.proofs.serving.take_pieces.Given as goal
 
 abbrev pub invariant-loop-taken : goal.invariant-loop-taken
 invariant-loop-taken g l = record {
-  far : SoFar (admits_by g.R.Entry.Admits.meaning g.R.Entry.Admits.test) (g.R.Runner.runs (g.R.Runner.subject l.fn.runner)) l.fn.session.cache (g.S.Source.rest l.fn.src) (g.S.Source.rest l.src)
+  far : SoFar l.form (admits_by g.R.Entry.Admits.meaning g.R.Entry.Admits.test) (g.R.Runner.runs (g.R.Runner.subject l.fn.runner)) l.fn.session.cache (g.S.Source.rest l.fn.src) (g.S.Source.rest l.src)
       (told (g.K.Sink.taken l.fn.out) (g.R.Runner.counts l.fn.runner)) (told (g.K.Sink.taken l.out) (g.R.Runner.counts l.runner)) l.session.cache l.session.line.items l.taken;
   within : l.taken ≤ SESSION_INPUT_LIMIT;
   read_count : g.S.Source.faults l.src ≡ g.S.Source.faults l.fn.src;

@@ -11,7 +11,7 @@ pub returns-clause-alone : goal.returns-clause-alone
 returns-clause-alone c p first kept last inputs others answers replies h g line place input i j = alone p first inputs others answers replies kept last h g line place input i j
 
 pub returns-clause-parts : goal.returns-clause-parts
-returns-clause-parts c p first inputs others text before behind h i j = parts p first inputs others text before behind h i j
+returns-clause-parts c form p first inputs others text before behind h i j = parts p first inputs others text before behind h i j
 
 pub returns-clause-one_text : goal.returns-clause-one_text
-returns-clause-one_text c p first inputs text other h i = one_text p first inputs text other h i
+returns-clause-one_text c form p first inputs text other h i = one_text p first inputs text other h i

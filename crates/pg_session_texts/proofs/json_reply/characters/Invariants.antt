@@ -1,0 +1,7 @@
+use Rattle.std.specs.Prelude.{◌≡◌, ◌++◌, drop, encode_utf8_all, string_bytes}
+use Rattle.pg_session_texts.proofs.json_reply.characters.Given as goal
+
+-- the characters so far and those of the bytes that are left are those of all
+abbrev pub invariant-loop-byte : goal.invariant-loop-byte
+invariant-loop-byte l =
+    string_bytes l.text ++ encode_utf8_all (drop l.byte-index l.bytes) ≡ encode_utf8_all l.bytes
