@@ -5,6 +5,7 @@
 //!     races STEPS THREADS                   the races of a made trace
 //!     regions [chain | functions | nested | exits]     the regions of the branches of a made program
 //!     recordings [shares N | slice LENGTH [SHAPE] | run LENGTH [SHAPE]]     what recording a line takes, and using its entry
+// How goals are searched for: see docs/CONTRIBUTING.md.
 #![tactic(auto)]
 
 mod races;

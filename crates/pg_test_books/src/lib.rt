@@ -1,4 +1,5 @@
 //! Tests of books in the top call: saved, loaded and refused, and with calls on the outside that fail.
+// How goals are searched for: see docs/CONTRIBUTING.md.
 #![tactic(auto)]
 
 #[cfg(test)]

@@ -73,7 +73,7 @@ fn words_of(alloc: Global, line: &str) -> Result<Vec<String>, AllocError> {
 
 /// The status of a command on the program `x` and this input, where this crew records freely and one of this sort runs workers, and
 /// what it writes.
-fn outcome<R: Threads + Wait + Sync, G: FreeCrew + Drop>(
+pub(crate) fn outcome<R: Threads + Wait + Sync, G: FreeCrew + Drop>(
     rt: &R,
     alloc: Global,
     line: &str,

@@ -1,10 +1,15 @@
 //! Tests of the top call, and of what it reads and writes with.
+// How goals are searched for: see docs/CONTRIBUTING.md.
 #![tactic(auto)]
 
+#[cfg(test)]
+mod conditions;
 #[cfg(test)]
 mod faults;
 #[cfg(test)]
 mod free;
+#[cfg(test)]
+mod json;
 #[cfg(test)]
 mod long;
 #[cfg(test)]

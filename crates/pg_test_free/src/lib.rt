@@ -1,4 +1,5 @@
 //! Tests of recordings in any order of the threads.
+// How goals are searched for: see docs/CONTRIBUTING.md.
 #![tactic(auto)]
 
 #[cfg(test)]

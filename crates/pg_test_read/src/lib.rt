@@ -1,4 +1,5 @@
 //! Tests of the reader: tokens, texts and their canonical texts, and the types of a text.
+// How goals are searched for: see docs/CONTRIBUTING.md.
 #![tactic(auto)]
 
 #[cfg(test)]

@@ -1,5 +1,6 @@
 //! Runs the top call on small programs, and prints what comes of it: of texts, and of sessions, shows and trials. What comes of
 //! each row was written down by hand.
+// How goals are searched for: see docs/CONTRIBUTING.md.
 #![tactic(auto)]
 
 mod running;

@@ -1,4 +1,5 @@
 //! Tests of the parts that runs are made of, and of rotation runs and guided runs of sample programs.
+// How goals are searched for: see docs/CONTRIBUTING.md.
 #![tactic(auto)]
 
 #[cfg(test)]

@@ -1,4 +1,5 @@
 //! Sample programs for tests, and how a program is built of a table of plain data.
+// How goals are searched for: see docs/CONTRIBUTING.md.
 #![tactic(auto)]
 
 mod building;

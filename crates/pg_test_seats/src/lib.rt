@@ -1,5 +1,6 @@
 //! Tests of seats: runs of small programs in a room, whose threads take turns on one processor, with the shared words looked at before each
 //! step.
+// How goals are searched for: see docs/CONTRIBUTING.md.
 #![tactic(auto)]
 
 #[cfg(test)]

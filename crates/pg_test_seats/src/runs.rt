@@ -66,6 +66,7 @@ fn drive(
     requires gated { shared.now.gated ≡ shared.now.schedule.now.gated }
 {
     let watch = Watch::new(&shared.words, row.watched, row.before);
+    // The label is for the proof: see docs/CONTRIBUTING.md.
     'segments: for (thread, paused) in row.segments {
         let number = *thread as usize;
         if number >= workers.len() {

@@ -1,4 +1,5 @@
 //! Tests of slices, and of what they are made of: known values, memory, conflicts, replays.
+// How goals are searched for: see docs/CONTRIBUTING.md.
 #![tactic(auto)]
 
 #[cfg(test)]

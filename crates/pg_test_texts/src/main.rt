@@ -1,6 +1,7 @@
 //! Reads the texts of `data/`. For each line of `texts.txt` it prints whether that is a module, or its first refusal,
 //! and for each program its canonical text. Of one program it reads each beginning too. `data/texts.py` made the output
 //! that is wanted.
+// How goals are searched for: see docs/CONTRIBUTING.md.
 #![tactic(auto)]
 
 use pg_num::limits::PROGRAM_TEXT_LIMIT;

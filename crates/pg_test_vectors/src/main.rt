@@ -1,6 +1,7 @@
 //! Compares the operations on numbers, pointers and places with rows that an independent program made.
 //! `data/vectors.txt` has a row a line: an operation, a width, two operands and the result; `data/vectors.c`
 //! made it. Its last 30 rows are wrong, and the output that is wanted names just these.
+// How goals are searched for: see docs/CONTRIBUTING.md.
 #![tactic(auto)]
 
 mod row;

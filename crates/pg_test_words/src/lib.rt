@@ -1,4 +1,5 @@
 //! Tests of shared words, under a rule that says nothing.
+// How goals are searched for: see docs/CONTRIBUTING.md.
 #![tactic(auto)]
 
 mod anything;

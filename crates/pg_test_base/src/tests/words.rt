@@ -240,6 +240,35 @@ fn ways_of_a_session(rt: HostRuntime) -> Result<(), Fail> {
     Ok(())
 }
 
+// Whether each reply of the session that words are is a line of JSON, if they are one.
+fn session_is_json(alloc: Global, words: &[&str]) -> Result<Option<bool>, AllocError> {
+    let words = texts(alloc, words)?;
+    match command(alloc, &words)? {
+        Some(Command::Serve(serve)) => Ok(Some(serve.json)),
+        _ => Ok(None),
+    }
+}
+
+#[test]
+fn forms_of_a_session(rt: HostRuntime) -> Result<(), Fail> {
+    let rows: [(&[&str], Option<bool>); 10] = [
+        (&["serve", "x"], Some(false)),
+        (&["serve", "--json", "x"], Some(true)),
+        (&["serve", "x", "--json"], Some(true)),
+        (&["serve", "--seed=1", "--json", "--", "x"], Some(true)),
+        (&["serve", "x", "--json", "--only", "--book=y"], Some(true)),
+        (&["serve", "--", "--json"], Some(false)),
+        (&["serve", "--json"], None),
+        (&["serve", "x", "--json="], None),
+        (&["serve", "x", "--json=true"], None),
+        (&["serve", "x", "--jsons"], None),
+    ];
+    for (words, want) in rows {
+        assert_eq!(rt; session_is_json(rt.alloc(), words)?, want);
+    }
+    Ok(())
+}
+
 #[test]
 fn ways_of_a_show(rt: HostRuntime) -> Result<(), Fail> {
     let rows: [(&[&str], Option<(&str, RecordingWay, &[i64])>); 16] = [
@@ -292,10 +321,61 @@ fn ways_of_a_show(rt: HostRuntime) -> Result<(), Fail> {
     Ok(())
 }
 
-// Words that are no command of the program, or none yet.
 #[test]
-fn words_that_are_not_offered(rt: HostRuntime) -> Result<(), Fail> {
-    let rows: [&[&str]; 26] = [
+fn conditions(rt: HostRuntime) -> Result<(), Fail> {
+    let rows: [(&[&str], Option<(&str, RecordingWay, &[i64])>); 15] = [
+        (
+            &["conditions", "x"],
+            Some(("x", RecordingWay::Rotating(100), &[])),
+        ),
+        (
+            &["conditions", "x", "1", "2"],
+            Some(("x", RecordingWay::Rotating(100), &[1, 2])),
+        ),
+        (
+            &["conditions", "--quantum", "1", "x", "--", "-5"],
+            Some(("x", RecordingWay::Rotating(1), &[-5])),
+        ),
+        (
+            &["conditions", "x", "1", "--seed=1"],
+            Some(("x", RecordingWay::Seeded(1), &[1])),
+        ),
+        (
+            &["conditions", "--free", "-", "3"],
+            Some(("-", RecordingWay::Free, &[3])),
+        ),
+        (&["conditions"], None),
+        (&["conditions", "x", "y"], None),
+        (&["conditions", "x", "-5"], None),
+        (&["conditions", "x", "1", "--quantum", "10001"], None),
+        (&["conditions", "--free", "--seed", "5", "x"], None),
+        (&["conditions", "x", "--book", "y"], None),
+        (&["conditions", "x", "--only"], None),
+        (&["conditions", "x", "--json"], None),
+        (&["condition", "x"], None),
+        (&["conditions", "x", "--", "--free"], None),
+    ];
+    for (words, want) in rows {
+        let words = texts(rt.alloc(), words)?;
+        let found = command(rt.alloc(), &words)?;
+        match &found {
+            Some(Command::Conditions(it)) => {
+                assert_eq!(rt;
+                    Some((it.file.as_str(), it.way, it.numbers.as_slice())),
+                    want
+                )
+            }
+            Some(_) => assert!(rt; false),
+            None => assert!(rt; want.is_none()),
+        }
+    }
+    Ok(())
+}
+
+// Words that are no command of the program.
+#[test]
+fn words_that_are_no_command(rt: HostRuntime) -> Result<(), Fail> {
+    let rows: [&[&str]; 22] = [
         &["serve", "x", "--book="],
         &["serve", "x", "--book", ""],
         &["serve", "x", "--book", "-"],
@@ -305,13 +385,9 @@ fn words_that_are_not_offered(rt: HostRuntime) -> Result<(), Fail> {
         &["serve", "x", "--book", "y", "--only", "--free"],
         &["serve", "x", "--book", "y", "--only", "--seed=1"],
         &["serve", "x", "--book", "y", "--only", "--quantum=1"],
-        &["serve", "x", "--json"],
         &["serve", "x", "--json", "--json"],
         &["book", "x", "--book", "y"],
         &["book"],
-        &["conditions", "x"],
-        &["conditions", "x", "1", "--seed=1"],
-        &["conditions"],
         &["once", "--free"],
         &["once", "--seed", "1"],
         &["once", "--book=y"],

@@ -4,6 +4,7 @@ ghost use Rattle.std.specs.Prelude.{◌≡◌, true, None};
 use crate::sessions::made::Sums;
 use pg_io::{Failed, Sink, Source};
 use pg_session::{begin, serve};
+use pg_session_texts::ReplyForm;
 use std::cell::Cell;
 use std::test::Fail;
 
@@ -71,6 +72,7 @@ fn each_reply_is_one_write_before_the_next_read(rt: HostRuntime) -> Result<(), F
             &rt,
             rt.alloc(),
             &mut Sums,
+            ReplyForm::Lines,
             begin(rt.alloc())?,
             &mut src,
             &mut out

@@ -4,6 +4,7 @@ ghost use Rattle.std.specs.Prelude.{◌<◌};
 use crate::sessions::made::Sums;
 use pg_io::{MemorySink, MemorySource};
 use pg_session::{ServeFault, begin, serve};
+use pg_session_texts::ReplyForm;
 use std::alloc::{AllocError, Global};
 use std::sync::Wait;
 use std::test::Fail;
@@ -16,9 +17,10 @@ struct Written {
     text: Vec<u8>,
 }
 
-fn session_of<R: Threads + Wait + Sync>(
+fn session_in<R: Threads + Wait + Sync>(
     rt: &R,
     alloc: Global,
+    form: ReplyForm,
     input: &[u8],
     piece: usize,
     reads: &[u64],
@@ -31,11 +33,25 @@ fn session_of<R: Threads + Wait + Sync>(
     let failing = writes.to_vec(alloc)?;
     let mut out = MemorySink::new(alloc, 4_000, failing)?;
     let first = begin(alloc)?;
-    let end = serve(rt, alloc, &mut Sums, first, &mut src, &mut out);
+    let end = serve(rt, alloc, &mut Sums, form, first, &mut src, &mut out);
     Ok(Written {
         end,
         text: out.bytes().to_vec(alloc)?,
     })
+}
+
+/// The same where replies are written in lines.
+fn session_of<R: Threads + Wait + Sync>(
+    rt: &R,
+    alloc: Global,
+    input: &[u8],
+    piece: usize,
+    reads: &[u64],
+    writes: &[u64],
+) -> Result<Written, AllocError>
+    requires { 0 < piece }
+{
+    session_in(rt, alloc, ReplyForm::Lines, input, piece, reads, writes)
 }
 
 const RECORDED: &[u8] = b"recorded 0\n3\nexit 0 after 3 turns\n";
@@ -85,6 +101,34 @@ fn lines(rt: HostRuntime) -> Result<(), Fail> {
     for (input, text) in rows {
         for piece in [1, 3, 5_000] {
             let written = session_of(&rt, rt.alloc(), input, piece, &[], &[])?;
+            assert_eq!(rt; written.end, Ok(()));
+            assert_eq!(rt; written.text.as_slice(), text);
+        }
+    }
+    Ok(())
+}
+
+#[test]
+fn lines_as_json(rt: HostRuntime) -> Result<(), Fail> {
+    let rows: [(&[u8], &[u8]); 4] = [
+        (b"", b""),
+        (
+            b"3\n4",
+            b"{\"end\":{\"exit\":0},\"entry\":0,\"output\":\"3\\n\",\"reply\":\"recorded\",\"turns\":3}\n\
+{\"end\":{\"exit\":0},\"entry\":0,\"output\":\"4\\n\",\"reply\":\"reused\",\"turns\":4}\n",
+        ),
+        (
+            b"0 1\n",
+            b"{\"end\":{\"at\":7,\"trap\":\"DivideByZero\"},\"output\":\"a\\n\",\"reply\":\"refused trap\"}\n",
+        ),
+        (
+            b"1 1\n2  3\n",
+            b"{\"output\":\"\",\"reply\":\"refused budget\"}\n{\"output\":\"\",\"reply\":\"refused line\"}\n",
+        ),
+    ];
+    for (input, text) in rows {
+        for piece in [1, 5_000] {
+            let written = session_in(&rt, rt.alloc(), ReplyForm::Json, input, piece, &[], &[])?;
             assert_eq!(rt; written.end, Ok(()));
             assert_eq!(rt; written.text.as_slice(), text);
         }

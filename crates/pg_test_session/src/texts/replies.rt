@@ -73,5 +73,6 @@ fn refusals(rt: HostRuntime) -> Result<(), Fail> {
         ReplyKind::RefusedBudget,
         "1\n2\n",
         "refused budget\n1\n2\n",
-    )
+    )?;
+    check_refused(&rt, ReplyKind::RefusedUntested, "", "refused untested\n")
 }
