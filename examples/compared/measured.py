@@ -2,11 +2,11 @@
 
 import os
 import re
+import resource
 import shutil
 import statistics
-import time
 
-from tools import EXAMPLES, PROGRAM, built, clang, run, text_of, tools
+from tools import EXAMPLES, PROGRAM, TOP, built, clang, run, text_of, tools
 
 RUNS = 300
 # of loop.ll, as `pg_bench steps` counts them
@@ -63,12 +63,13 @@ def replays(folder):
 
 
 def best(words, times=7, **more):
-    """The least and the middle of the seconds that a command takes."""
+    """The least and the middle of the seconds of the processor that a command takes."""
     taken = []
     for _ in range(times):
-        begin = time.monotonic()
+        begin = resource.getrusage(resource.RUSAGE_CHILDREN)
         run(words, **more)
-        taken.append(time.monotonic() - begin)
+        end = resource.getrusage(resource.RUSAGE_CHILDREN)
+        taken.append(end.ru_utime + end.ru_stime - begin.ru_utime - begin.ru_stime)
     return min(taken), statistics.median(taken)
 
 
@@ -95,12 +96,17 @@ def steps_rows():
 
 
 def seconds(folder):
-    """Times by the clock, of whole commands with their start."""
+    """Times of the processor, of whole commands with their start."""
     source, words = f"{EXAMPLES}/bank_racy.c", ["5", "3", "9", "12", "7", "2"]
     rows = [f"| `bank_racy` natively | {told(best([built(source, 'gcc', [], folder), *words]))} |"]
     rows.append(f"| `bank_racy`, `show` | {told(best([PROGRAM, 'show', text_of(source, folder), *words]))} |")
     for tool in tools():
         program = built(source, tool.compiler, tool.flags, folder)
         rows.append(f"| `bank_racy`, {tool.name} | {told(best([*tool.before, program, *words]))} |")
-    head = "## Times\n\nBy the clock, of a whole command with its start, in milliseconds, of seven runs:\n"
+    is_script = PROGRAM == f"{TOP}/peregrine"
+    head = f"""## Times
+
+Milliseconds of the processor, which other work changes little, of a whole command with its start, of seven runs. `once` and
+`show` are called {'by the script `./peregrine`' if is_script else 'without the script `./peregrine`'}.
+"""
     return "\n".join([head, "| Command | Least | Middle |", "|---|---|---|", *rows, *steps_rows()]) + "\n"

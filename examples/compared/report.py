@@ -11,7 +11,7 @@ from tools import clang, run
 HEAD = """# Beside the tools that people use
 
 What helgrind and drd (valgrind), ThreadSanitizer, rr, LLVM's interpreter lli and a native run do with the same C programs.
-`examples/compare-tools` makes this page; {seconds}.
+`examples/compare-tools{seconds}` makes this page.
 
 The figures are of {day}, on a machine with {processors} processors ({model}), by
 
@@ -61,9 +61,8 @@ def head(with_seconds):
     """The day, the machine and the tools, without which no figure says much."""
     with open("/proc/cpuinfo", encoding="utf-8") as it:
         model = re.search(r"model name\s*: (.*)", it.read())
-    load = "with times, for which nothing else may run" if with_seconds else "without times, since other work ran beside it"
     return HEAD.format(
-        seconds=f"this is a run {load}",
+        seconds=" --seconds" if with_seconds else "",
         day=datetime.date.today().isoformat(),
         processors=os.cpu_count(),
         model=model[1] if model else "of an unknown model",

@@ -108,7 +108,7 @@ class Picture:
         if turn.kind in ("start", "exit"):
             return ""
         if turn.kind == "out":
-            return printed[:-2]
+            return printed.removesuffix("\\n")
         return f'"{printed}"' if turn.kind == "putchar" else place_name(turn.object, self.program)
 
     def make_links(self):

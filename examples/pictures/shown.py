@@ -22,7 +22,7 @@ TURN = re.compile(rb"turn (\d+) thread (\d+) ([a-z-]+) at (\d+) on (\d+)\n")
 RACE = re.compile(rb"race at (\d+) steps (\d+) (\d+)\n")
 DECISION = re.compile(rb"(pinned|exact) (\d+) at (\d+)\n")
 END = re.compile(rb"exit (-?\d+) after (\d+) turns\n\Z")
-NUMBER = re.compile(rb"-?\d+\n")
+NUMBER = re.compile(rb"-?(?:0|[1-9]\d{0,18})")
 
 
 class NotShown(Exception):
@@ -52,21 +52,38 @@ def all_of(pattern, text, at):
     return found
 
 
-def prints(turns, output):
-    """What each turn printed: a number and a line feed for out, a byte for putchar; None where that isn't the output."""
-    at, printed = 0, []
+def ends(turn, output, at, program):
+    """Where what a turn prints from a place on may end: a byte of putchar, a number of pg_print, and one with a line feed
+    of pg_out. Both numbers are turns of the kind out; where no program tells which it is, it may be either."""
+    if turn.kind == "putchar":
+        return [at + 1] if at < len(output) else []
+    if turn.kind != "out":
+        return [at]
+    number = NUMBER.match(output, at)
+    if not number:
+        return []
+    callee = program.instrs[turn.instr].callee if program and turn.instr < len(program.instrs) else None
+    found = [number.end() + 1] if callee != "pg_print" and output[number.end() : number.end() + 1] == b"\n" else []
+    if callee != "pg_out":
+        # the next turn's number may follow without a byte between
+        least = at + 2 if output[at : at + 1] == b"-" else at + 1
+        found += range(number.end(), least - 1, -1)
+    return found
+
+
+def prints(turns, output, program):
+    """What each turn printed; None where that isn't the output."""
+    reached = [{0}]
     for turn in turns:
-        end = at
-        if turn.kind == "putchar":
-            end = at + 1
-        elif turn.kind == "out":
-            number = NUMBER.match(output, at)
-            end = number.end() if number else len(output) + 1
-        if end > len(output):
-            return None
-        printed.append(output[at:end])
-        at = end
-    return printed if at == len(output) else None
+        reached.append({end for at in reached[-1] for end in ends(turn, output, at, program)})
+    if len(output) not in reached[-1]:
+        return None
+    end, printed = len(output), []
+    for turn, places in zip(reversed(turns), reversed(reached[:-1])):
+        begin = max(at for at in places if end in ends(turn, output, at, program))
+        printed.append(output[begin:end])
+        end = begin
+    return printed[::-1]
 
 
 def turns_of(text):
@@ -83,8 +100,8 @@ def turns_of(text):
     return turns, found[-1].end() if found else 0
 
 
-def read(text):
-    """The entry that a text of show tells."""
+def read(text, program=None):
+    """The entry that a text of show tells; the program, where there is one, tells what kind of number a turn prints."""
     if not text.startswith(b"recorded 0\n"):
         raise NotShown(refusal(text))
     turns, at = turns_of(text)
@@ -100,7 +117,7 @@ def read(text):
     # a program may print what looks like a decision: the turns tell how much is printed
     for count in range(len(decisions), -1, -1):
         begin = decisions[count - 1].end() if count else (races[-1].end() if races else at)
-        printed = prints(turns, text[begin : end.start()])
+        printed = prints(turns, text[begin : end.start()], program)
         if printed is not None:
             break
     else:

@@ -64,6 +64,13 @@ def parts(text):
     return [it for it in found + [text[begin:].strip()] if it]
 
 
+def operand(instr, at):
+    """An operand of a call: the last word of one of its arguments."""
+    inner = instr.text[instr.text.index("(", instr.text.index("@")) + 1 : instr.text.rindex(")")]
+    found = re.findall(rf"(?:getelementptr[^(]*\([^()]*\)|[@%]{NAME}|\w+)\s*(?:,|$)", inner)
+    return found[at].rstrip(", ") if at < len(found) else ""
+
+
 class Program:
     """A program text, read line by line as clang writes it."""
 
