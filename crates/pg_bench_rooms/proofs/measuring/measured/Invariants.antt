@@ -1,5 +1,0 @@
-use Rattle.pg_test_go.specs.Serves.{Serves}
-use Rattle.pg_bench_rooms.proofs.measuring.measured.Given as goal
-
-abbrev pub invariant-runs : goal.invariant-runs
-invariant-runs g l = Serves l.p l.entry

@@ -1,5 +1,0 @@
-use Rattle.pg_test_go.specs.Serves.{Serves}
-use Rattle.pg_bench_rooms.proofs.refused.ready_in_two_tries.Given as goal
-
-abbrev pub invariant-tries : goal.invariant-tries
-invariant-tries g l = Serves l.p l.entry
