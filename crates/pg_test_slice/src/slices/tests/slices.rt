@@ -143,9 +143,10 @@ fn sums_are_of_any_length(rt: HostRuntime) -> Result<(), Fail> {
 /// start and creates, both starts, both exits, two joins, a print and main's exit. Main has the steps 0 to 3, both starts are 4
 /// and 5. The first thread goes on with three steps, three rounds of seven, a last test of two, and its exit, 6 to 32: the
 /// branch is the second step of a round and of the last test, the store the fifth. So the other from 33 to 59. The checks are
-/// three operands and bounds of each create; of each thread four conditions, each with the bounds of the loop's store, and
-/// place and bounds of three stores; two operands of each join; the bounds of two loads. Each thread reads one number. Another
-/// count of rounds isn't admitted; of such an input nothing is said, and here the same turns come about.
+/// three operands and bounds of each create; of each thread four conditions, and place and bounds of three stores; two operands
+/// of each join; the bounds of two loads. What a branch asks of the loop's store is no check, since its array is a global, at the
+/// same place on each input. Each thread reads one number. Another count of rounds isn't admitted; of such an input nothing is
+/// said, and here the same turns come about.
 const STORES: Row = Row {
     input: &[3],
     quantum: 10,
@@ -161,7 +162,7 @@ const STORES: Row = Row {
     ],
     pinned: &[10, 17, 24, 31, 37, 44, 51, 58],
     exact: &[13, 20, 27, 40, 47, 54],
-    checks: 42,
+    checks: 34,
     tests: &[],
     reads: 2,
     admitted: &[&[3]],
