@@ -5,3 +5,5 @@ pub mod Reaches
 pub mod Separations
 pub mod RankLemmas
 pub mod Nesting
+pub mod ReachSearches
+pub mod AlikeVertices

@@ -3,3 +3,4 @@ pub mod Searches
 pub mod Separators
 pub mod Separator
 pub mod Nested
+pub mod Alike

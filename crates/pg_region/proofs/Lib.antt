@@ -6,3 +6,4 @@ pub mod PreparedFinders
 pub mod EdgesBeforeJoin
 pub mod NestedRegions
 pub mod Examples
+pub mod AlikeBranches

@@ -38,10 +38,9 @@ module _ (p : NumberedProgram) (gated : ℕ → Bool) (sums : ℕ → Option Roo
   not_met (first e h) = h
   not_met (then w e h) = h
 
-  module _ (c d v : ℕ) (outer inner : Region) (h : IsRegion p gated sums c outer) (k : IsRegion p gated sums d inner) (m : Contains outer.blocks.items d) (path : Path (flow_of p) outer.join v)
-      (l : IsLoudBlock p gated sums v) where
-    -- no join has a proper part of the inner region before it
-    no_fewer : (j : ℕ) → Enters (flow_of p) j d → ((x : ℕ) → Walk (flow_of p) j d x → Walk (flow_of p) inner.join d x) → Walk (flow_of p) inner.join d j → ⊥
+  module _ (d : ℕ) (inner : Region) (k : IsRegion p gated sums d inner) where
+    -- no join has a proper part of a region before it
+    pub no_fewer : (j : ℕ) → Enters (flow_of p) j d → ((x : ℕ) → Walk (flow_of p) j d x → Walk (flow_of p) inner.join d x) → Walk (flow_of p) inner.join d j → ⊥
     no_fewer j e w a = has_part (λ x. Walk (flow_of p) j d x) inner.blocks.items k.join.before.ascending found
       where
         found : (xs : List ℕ) → IsPart (λ x. Walk (flow_of p) j d x) inner.blocks.items xs → ⊥
@@ -57,13 +56,15 @@ module _ (p : NumberedProgram) (gated : ℕ → Bool) (sums : ℕ → Option Roo
             against xs less (inl t) = omega (arith, less, t)
             against xs less (inr t) = omega (arith, less, t.0)
 
+  module _ (c d v : ℕ) (outer inner : Region) (h : IsRegion p gated sums c outer) (k : IsRegion p gated sums d inner) (m : Contains outer.blocks.items d) (path : Path (flow_of p) outer.join v)
+      (l : IsLoudBlock p gated sums v) where
     regions : HaveRegions (flow_of p) quiet c outer.join d inner.join v
     regions = record {
       outer = quiet_before c outer.join outer.blocks.items outer.accesses.items h.join;
       inside = (h.join.before.exact d).0 m;
       inner = quiet_before d inner.join inner.blocks.items inner.accesses.items k.join;
       enters = k.join.reached;
-      fewest = λ j e q w a. no_fewer j e w a;
+      fewest = λ j e q w a. no_fewer d inner k j e w a;
       loud = loud_none v l (block_accesses false p gated sums nothing v) refl;
       path = path;
     }

@@ -3,10 +3,13 @@
 // How goals are searched for: see docs/CONTRIBUTING.md.
 #![tactic(auto)]
 
+mod alike;
 mod finder;
+mod finding;
 mod flow;
 pub mod laws;
 mod region;
 
+pub use alike::{Alike, Found};
 pub use finder::{Finder, region_of};
 pub use region::Region;
