@@ -7,14 +7,11 @@ ghost use Rattle.pg_slice_walk.specs.pg_slice_replay.Kept.{step_count};
 ghost use Rattle.pg_slice.specs.Settled.{AreTogether, Disturbs, Shares};
 
 use crate::footprints::{accesses_meet, region_meets};
-use crate::rivals::Rivals;
+use crate::rivals::{Accessor, Last, Rivals};
 use pg_run_trace::{Step, StepKind, Trace};
 use pg_schedule::{Interval, interval_at};
 use pg_slice_walk::marks::mark_at;
 use pg_slice_walk::pg_slice_passes::GivenRun;
-
-/// How many stretches are looked at: of steps whose intervals overlap, most stand near each other.
-const NEAR: usize = 16;
 
 /// Whether intervals overlap.
 fn overlap(one: Interval, other: Interval) -> bool
@@ -110,34 +107,34 @@ fn next_turn(intervals: &[Interval], number: usize) -> usize {
     }
 }
 
-/// A live step of one of the last stretches that begin before a freeable step's next turn, that disturbs this.
-fn disturbing_near(
+/// A live step of an accessor that disturbs a freeable one.
+fn disturbing_by(
     rivals: &Rivals,
     run: &GivenRun,
     live: &[bool],
     number: usize,
-    word: u64,
+    accessor: &Accessor,
+    last: Last,
 ) -> Option<usize>
     requires count { step_count run.now.r.now ≡ length run.now.t.now.steps }
     requires intervals { run.now.intervals.now ≡ intervals_of Recorded run.now.t.now.steps }
     requires number { number < length run.now.t.now.steps }
     ensures { IfSome result (λ y. (y < length run.now.t.now.steps) × (slice_index_or live.now y false ≡ true) × Disturbs run.now.r.now run.now.t.now.steps number y) }
 {
-    let mut seen: usize = 0;
-    for (stretch, step) in rivals.up_to(word, next_turn(run.intervals, number)) {
-        if seen == NEAR || !stretch.begins_at(word) {
-            return None;
+    match rivals.up_to(accessor, last, next_turn(run.intervals, number)) {
+        Some(step) => {
+            if is_disturbing(run, live, number, step) {
+                Some(step)
+            } else {
+                None
+            }
         }
-        if is_disturbing(run, live, number, *step) {
-            return Some(*step);
-        }
-        seen = seen.saturating_add(1);
+        None => None,
     }
-    None
 }
 
-/// A live step that is the last of an accessor of what begins where a pointer's bounds begin, and that disturbs a freeable one.
-fn disturbing_last(
+/// A live step that may access what begins where a pointer's bounds begin, and that disturbs a freeable one.
+fn disturbing_at(
     rivals: &Rivals,
     run: &GivenRun,
     live: &[bool],
@@ -158,31 +155,11 @@ fn disturbing_last(
         if !accessor.may_meet(thread, writes) {
             continue;
         }
-        if is_disturbing(run, live, number, *last) {
-            return Some(*last);
+        if let Some(y) = disturbing_by(rivals, run, live, number, accessor, *last) {
+            return Some(y);
         }
     }
     None
-}
-
-/// A live step that may access what begins where a pointer's bounds begin, and that disturbs a freeable one.
-fn disturbing_at(
-    rivals: &Rivals,
-    run: &GivenRun,
-    live: &[bool],
-    number: usize,
-    word: u64,
-    writes: bool,
-) -> Option<usize>
-    requires count { step_count run.now.r.now ≡ length run.now.t.now.steps }
-    requires intervals { run.now.intervals.now ≡ intervals_of Recorded run.now.t.now.steps }
-    requires number { number < length run.now.t.now.steps }
-    ensures { IfSome result (λ y. (y < length run.now.t.now.steps) × (slice_index_or live.now y false ≡ true) × Disturbs run.now.r.now run.now.t.now.steps number y) }
-{
-    match disturbing_last(rivals, run, live, number, word, writes) {
-        Some(y) => Some(y),
-        None => disturbing_near(rivals, run, live, number, word),
-    }
 }
 
 /// A live step that disturbs a freeable one by the access with this number of its region.
@@ -245,35 +222,34 @@ fn is_sharing(
     shares(trace, intervals, number, other)
 }
 
-/// A live step of one of the last stretches that begin before the next turn of a load's or a store's thread, whose access meets
-/// that of this, which is no event.
-fn sharing_near(
+/// A live step of an accessor whose access meets that of a load or a store that is no event.
+fn sharing_by(
     rivals: &Rivals,
     trace: &Trace,
     intervals: &[Interval],
     live: &[bool],
     number: usize,
-    word: u64,
+    accessor: &Accessor,
+    last: Last,
 ) -> Option<usize>
     requires intervals { intervals.now ≡ intervals_of Recorded trace.now.steps }
     requires number { number < length trace.now.steps }
     ensures { IfSome result (λ y. (y < length trace.now.steps) × (slice_index_or live.now y false ≡ true) × Shares trace.now.steps number y) }
 {
-    let mut seen: usize = 0;
-    for (stretch, step) in rivals.up_to(word, next_turn(intervals, number)) {
-        if seen == NEAR || !stretch.begins_at(word) {
-            return None;
+    match rivals.up_to(accessor, last, next_turn(intervals, number)) {
+        Some(step) => {
+            if is_sharing(trace, intervals, live, number, step) {
+                Some(step)
+            } else {
+                None
+            }
         }
-        if is_sharing(trace, intervals, live, number, *step) {
-            return Some(*step);
-        }
-        seen = seen.saturating_add(1);
+        None => None,
     }
-    None
 }
 
-/// A live step that is the last of its accessor, and whose access meets that of a load or a store that is no event.
-fn sharing_last(
+/// A live step whose access meets that of a load or a store that is no event.
+pub(crate) fn sharing(
     rivals: &Rivals,
     trace: &Trace,
     intervals: &[Interval],
@@ -291,32 +267,12 @@ fn sharing_last(
         if !accessor.begins_at(word) {
             return None;
         }
-        if !accessor.may_meet(thread, writes) {
+        if !accessor.is_own() || !accessor.may_meet(thread, writes) {
             continue;
         }
-        if is_sharing(trace, intervals, live, number, *last) {
-            return Some(*last);
+        if let Some(y) = sharing_by(rivals, trace, intervals, live, number, accessor, *last) {
+            return Some(y);
         }
     }
     None
-}
-
-/// A live step whose access meets that of a load or a store that is no event.
-pub(crate) fn sharing(
-    rivals: &Rivals,
-    trace: &Trace,
-    intervals: &[Interval],
-    live: &[bool],
-    number: usize,
-    word: u64,
-    writes: bool,
-) -> Option<usize>
-    requires intervals { intervals.now ≡ intervals_of Recorded trace.now.steps }
-    requires number { number < length trace.now.steps }
-    ensures { IfSome result (λ y. (y < length trace.now.steps) × (slice_index_or live.now y false ≡ true) × Shares trace.now.steps number y) }
-{
-    match sharing_last(rivals, trace, intervals, live, number, word, writes) {
-        Some(y) => Some(y),
-        None => sharing_near(rivals, trace, intervals, live, number, word),
-    }
 }

@@ -6,22 +6,28 @@ use std::alloc::{AllocError, Global};
 use std::collections::BTreeMap;
 use std::collections::btree_map::Range;
 
-/// By what steps are told apart: the granule at which the bounds begin of what they may access, their thread, and whether
-/// they may write.
+/// What may access what begins at a granule: the steps of a thread, by their own accesses or by those of their regions, that may
+/// write it or not.
 #[derive(Clone, Copy, Debug, PartialEq, Eq, PartialOrd, Ord)]
 pub(crate) struct Accessor {
     start: u32,
     thread: ThreadNo,
+    of_region: bool,
     writes: bool,
 }
 
-/// The steps of a thread between two of its turns that may access what begins at this granule, and may write it or not. Of one
-/// granule, those behind more turns come first.
+/// The steps of an accessor between two of its thread's turns. Of one accessor, those behind more turns come first.
 #[derive(Clone, Copy, Debug, PartialEq, Eq, PartialOrd, Ord)]
-pub(crate) struct Stretch {
-    start: u32,
+struct Stretch {
+    accessor: Accessor,
     left: usize,
-    writes: bool,
+}
+
+/// The last stretch of an accessor so far: the last of its steps, and behind how many turns of the run they stand.
+#[derive(Clone, Copy, Debug, PartialEq, Eq)]
+pub(crate) struct Last {
+    step: usize,
+    turn: usize,
 }
 
 /// A branch of a thread.
@@ -40,11 +46,11 @@ struct Noted {
     among: Option<usize>,
 }
 
-/// The last step so far of each accessor, and of each stretch; where the regions of branches were noted last; and whether
-/// a decision was taken.
+/// The last stretch so far of each accessor, and the last step of each stretch; where the regions of branches were noted last; and
+/// whether a decision was taken.
 #[derive(Drop)]
 pub(crate) struct Rivals {
-    last: BTreeMap<Accessor, usize>,
+    last: BTreeMap<Accessor, Last>,
     stretches: BTreeMap<Stretch, usize>,
     regions: BTreeMap<Site, Noted>,
     took: bool,
@@ -61,21 +67,18 @@ impl Accessor {
     pub(crate) fn may_meet(&self, thread: ThreadNo, writes: bool) -> bool {
         self.thread != thread && (self.writes || writes)
     }
-}
 
-impl Stretch {
-    /// That of a thread whose last turn is the one before this turn.
-    fn behind(turn: usize, word: u64, writes: bool) -> Stretch {
-        Stretch {
-            start: unpack(word).start,
-            left: usize::MAX - turn,
-            writes,
-        }
+    /// Whether its steps access by themselves, and not by their regions.
+    pub(crate) fn is_own(&self) -> bool {
+        !self.of_region
     }
 
-    /// Whether what it may access begins where a pointer's bounds begin.
-    pub(crate) fn begins_at(&self, word: u64) -> bool {
-        self.start == unpack(word).start
+    /// Its stretch behind so many turns.
+    fn behind(&self, turn: usize) -> Stretch {
+        Stretch {
+            accessor: *self,
+            left: usize::MAX - turn,
+        }
     }
 }
 
@@ -102,25 +105,35 @@ impl Rivals {
         }
     }
 
-    /// A step, whose thread's last turn is the one before this turn, may access what lies within a pointer's bounds.
+    /// A step of a thread, behind so many turns, may access what lies within a pointer's bounds.
     pub(crate) fn note(
         &mut self,
         word: u64,
         thread: ThreadNo,
+        of_region: bool,
         writes: bool,
         turn: usize,
         number: usize,
     ) -> Result<(), AllocError> {
-        let start = unpack(word).start;
         let accessor = Accessor {
-            start,
+            start: unpack(word).start,
             thread,
+            of_region,
             writes,
         };
-        self.last.insert(accessor, number)?;
-        self.stretches
-            .insert(Stretch::behind(turn, word, writes), number)?;
+        self.stretches.insert(accessor.behind(turn), number)?;
+        if !self.has_later(accessor, number) {
+            self.last.insert(accessor, Last { step: number, turn })?;
+        }
         Ok(())
+    }
+
+    /// Whether a later step than this one was noted of an accessor.
+    fn has_later(&self, accessor: Accessor, number: usize) -> bool {
+        match self.last.get(&accessor) {
+            Some(last) => last.step > number,
+            None => false,
+        }
     }
 
     /// How many accessors and stretches there are.
@@ -165,19 +178,32 @@ impl Rivals {
         }
     }
 
-    /// The accessors from those on whose bounds begin where a pointer's do, with their last steps.
-    pub(crate) fn from(&self, word: u64) -> Range<'_, Accessor, usize> {
+    /// The accessors from those on whose bounds begin where a pointer's do, with their last stretches.
+    pub(crate) fn from(&self, word: u64) -> Range<'_, Accessor, Last> {
         let first = Accessor {
             start: unpack(word).start,
             thread: ThreadNo(0),
+            of_region: false,
             writes: false,
         };
         self.last.range(first..)
     }
 
-    /// The stretches that begin up to a turn, from the last on, with their last steps: first those whose bounds begin where a
-    /// pointer's do.
-    pub(crate) fn up_to(&self, word: u64, turn: usize) -> Range<'_, Stretch, usize> {
-        self.stretches.range(Stretch::behind(turn, word, false)..)
+    /// The last step of the last stretch of an accessor that stands behind so many turns at the most, if there is one: if some
+    /// stretch of it overlaps an interval that ends there, this one does.
+    pub(crate) fn up_to(&self, accessor: &Accessor, last: Last, turn: usize) -> Option<usize> {
+        if last.turn <= turn {
+            return Some(last.step);
+        }
+        match self.stretches.range(accessor.behind(turn)..).next() {
+            Some((stretch, step)) => {
+                if stretch.accessor == *accessor {
+                    Some(*step)
+                } else {
+                    None
+                }
+            }
+            None => None,
+        }
     }
 }

@@ -21,7 +21,7 @@ use pg_slice_decisions::DecisionSet;
 use pg_slice_rules::Decision;
 use pg_slice_walk::extents::is_settled;
 use pg_slice_walk::holders::holder_at;
-use pg_slice_walk::marks::{no_marks, set_mark};
+use pg_slice_walk::marks::{mark_at, no_marks, set_mark};
 use pg_slice_walk::pg_slice_passes::GivenRun;
 use pg_slice_walk::pg_slice_replay::ReferenceRun;
 use std::alloc::{AllocError, Global};
@@ -175,7 +175,7 @@ fn note_one(
     k: usize,
 ) -> Result<(), AllocError> {
     if let Some(access) = reference.access(number, k) {
-        rivals.note(access.last, step.thread, access.writes, turn, number)?;
+        rivals.note(access.last, step.thread, true, access.writes, turn, number)?;
     }
     Ok(())
 }
@@ -203,19 +203,39 @@ fn note_region(
     Ok(())
 }
 
-/// Notes the bounds of a live step, which is pinned or not.
+/// Notes the bounds of a step's access, if it has one.
+fn note_access(
+    rivals: &mut Rivals,
+    step: &Step,
+    turn: usize,
+    number: usize,
+) -> Result<(), AllocError> {
+    if let Some(access) = step.access() {
+        let pointer = access.pointer;
+        rivals.note(pointer, step.thread, false, access.writes, turn, number)?;
+    }
+    Ok(())
+}
+
+/// Notes the bounds of a live step, which was known to be live or not, and is pinned or not.
 fn note(
     rivals: &mut Rivals,
     run: &GivenRun,
     step: &Step,
     number: usize,
+    known: bool,
     pinned: bool,
 ) -> Result<(), AllocError> {
     let turn = turn_before(run.intervals, number);
-    if let Some(access) = step.access() {
-        rivals.note(access.pointer, step.thread, access.writes, turn, number)?;
+    if !known {
+        note_access(rivals, step, turn, number)?;
     }
     note_region(rivals, run, step, turn, number, pinned)
+}
+
+/// Whether a step is known to be live.
+fn is_known(s: &Spread, number: usize) -> bool {
+    mark_at(s.live.as_slice(), number)
 }
 
 /// A step is live.
@@ -286,13 +306,21 @@ fn spread_step(
     if !is_settled(s.settled.as_slice(), holder_at(holders, number)) {
         return Ok(());
     }
+    let known = is_known(s, number);
     mark_live(s, number);
     let was = is_taken(decisions, number);
     take_asked(s, run, holders, decisions, number);
     mark_settled(s, decisions, number);
     s.rivals.tell(is_taken(decisions, number) != was);
     let pinned = decisions.is_pinned(number);
-    note(&mut s.rivals, run, &run.t.step(number), number, pinned)?;
+    note(
+        &mut s.rivals,
+        run,
+        &run.t.step(number),
+        number,
+        known,
+        pinned,
+    )?;
     Ok(())
 }
 

@@ -13,8 +13,7 @@ use Rattle.pg_law_least.specs.Keeps.{depth_of}
 use Rattle.pg_law_demands.specs.Cells.{IsMet}
 use Rattle.pg_law_demands.specs.Back.{of_operand}
 use Rattle.pg_law_demands.specs.Demands.{checked_demands, operand_demands}
-use Rattle.pg_slice_back.specs.Arguments.{is_start}
-use Rattle.pg_slice_passes.specs.pg_slice_checks.Steps.{below}
+use Rattle.pg_slice_passes.specs.pg_slice_checks.Steps.{below, is_start}
 
 get_more : {A : Type 0} (xs ys : List A) (i : ℕ) (x : A) → slice_get xs i ≡ Some x → slice_get (xs ++ ys) i ≡ Some x
 get_more [] ys i x h = absurd cc

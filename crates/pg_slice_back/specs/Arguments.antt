@@ -3,10 +3,6 @@ use Rattle.std.specs.Prelude.{Bool, true, false}
 use Rattle.pg_run_trace.specs.declared.turn.TurnKind.{TurnKind}
 use Rattle.pg_run_trace.specs.declared.turn.TurnKind.TheVariants as turns
 
-abbrev pub is_start : TurnKind → Bool
-is_start turns.Start = true
-is_start kind = false
-
 -- it prints its operand, and gives it back
 abbrev pub is_putchar : TurnKind → Bool
 is_putchar turns.Putchar = true

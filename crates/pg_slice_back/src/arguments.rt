@@ -14,7 +14,6 @@ ghost use Rattle.pg_law_demands.specs.Cells.{IsMet};
 ghost use Rattle.pg_law_demands.specs.Back.{of_operand};
 ghost use Rattle.pg_law_demands.specs.Demands.{checked_demands, kind_demands, operand_demands, write_demands};
 ghost use Rattle.pg_slice_rules.specs.Known.{Taken};
-ghost use Rattle.pg_slice_back.specs.Arguments.{is_start};
 ghost use Rattle.pg_slice_back.specs.Met.{AreMet};
 
 use crate::moves::put_optional;
@@ -22,7 +21,7 @@ use pg_ir::{Instr, LibraryCall, Op, Value};
 use pg_run_trace::{Event, TurnKind, Write};
 use pg_slice_demands::{Call, Demanded};
 use pg_slice_passes::is_malloc;
-use pg_slice_passes::pg_slice_checks::checked_of;
+use pg_slice_passes::pg_slice_checks::{checked_of, is_start};
 use std::alloc::AllocError;
 
 /// The value with this number, if there is one.
@@ -70,16 +69,6 @@ fn put_checked(demanded: &mut Demanded, at: Call, instr: &Instr) -> Result<(), A
         put_argument(demanded, at, &instr.op, i, true)?;
     }
     Ok(())
-}
-
-/// Whether an event begins a thread.
-fn is_start(kind: TurnKind) -> bool
-    ensures { result ≡ is_start kind }
-{
-    match kind {
-        TurnKind::Start => true,
-        _ => false,
-    }
 }
 
 /// What an event asks that calls a function: a start asks for nothing.

@@ -26,7 +26,7 @@ use pg_slice_demands::{Call, Demanded};
 use std::alloc::AllocError;
 
 /// Whether an event ends its thread.
-fn is_exit(kind: TurnKind) -> bool
+pub fn is_exit(kind: TurnKind) -> bool
     ensures { result ≡ is_exit kind }
 {
     match kind {

@@ -20,9 +20,11 @@ mod step;
 
 pub use arguments::put_argument;
 pub use call::call_of;
+pub use event::is_exit;
 pub use live::back_live;
 pub use moves::put_optional;
 pub use pg_slice_passes;
 pub use pg_slice_passes::{pg_slice_decisions, pg_slice_registers, pg_slice_replay};
 pub use region::sets_any;
 pub use registers::{Counts, register_counts};
+pub use step::StepAt;

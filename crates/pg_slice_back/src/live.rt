@@ -24,10 +24,9 @@ use crate::operations::{back_op, held};
 use crate::own::put_own;
 use crate::paths::put_region;
 use crate::region::sets_any;
-use crate::registers::Counts;
 use crate::step::StepAt;
-use pg_ir::{Instr, Op, Program};
-use pg_run_trace::{Access, Step, StepKind};
+use pg_ir::{Instr, Op};
+use pg_run_trace::{Access, StepKind};
 use pg_slice_demands::{Call, Demanded};
 use pg_slice_passes::pg_slice_decisions::DecisionSet;
 use pg_slice_passes::pg_slice_replay::ReferenceRun;
@@ -81,17 +80,18 @@ fn pin_due(
 fn back_branch(
     alloc: Global,
     demanded: &mut Demanded,
+    at: Call,
     s: &StepAt,
 ) -> Result<Option<Decision>, AllocError>
     requires number { s.now.number < step_count s.now.reference.now }
     requires edges { EdgesStand s.now.program.now s.now.reference.now }
     ensures step { IfOk result (λ o. IfSome o (λ z. step_of z ≡ s.now.number)) }
     ensures back { IfOk result (λ o. (R : Reference) (e : Taken) (step : AStep) (m : Moment)
-        → IsLiveStep R e s.now.program.now s.now.reference.now s.now.instr.now step s.now.counts s.now.number m → IsCallOf m s.now.at
+        → IsLiveStep R e s.now.program.now s.now.reference.now s.now.instr.now step s.now.counts s.now.number m → IsCallOf m at
         → is_branch step.kind ≡ true → AreMet (known_at R e (suc s.now.number)) demanded.old → AreMet (known_at R e s.now.number) demanded.new × IfSome o (λ z. has e z ≡ true)) }
 {
-    let due = pin_due(demanded, s.reference, s.at, s.number, s.counts.present);
-    back_op(alloc, demanded, s)?;
+    let due = pin_due(demanded, s.reference, at, s.number, s.counts.present);
+    back_op(alloc, demanded, at, s)?;
     Ok(due)
 }
 
@@ -99,16 +99,17 @@ fn back_branch(
 fn back_plain(
     alloc: Global,
     demanded: &mut Demanded,
+    at: Call,
     s: &StepAt,
 ) -> Result<Option<Decision>, AllocError>
     requires number { s.now.number < step_count s.now.reference.now }
     requires edges { EdgesStand s.now.program.now s.now.reference.now }
     ensures step { IfOk result (λ o. IfSome o (λ z. step_of z ≡ s.now.number)) }
     ensures back { IfOk result (λ o. (R : Reference) (e : Taken) (step : AStep) (m : Moment)
-        → IsLiveStep R e s.now.program.now s.now.reference.now s.now.instr.now step s.now.counts s.now.number m → IsCallOf m s.now.at
+        → IsLiveStep R e s.now.program.now s.now.reference.now s.now.instr.now step s.now.counts s.now.number m → IsCallOf m at
         → is_op step.kind ≡ true → AreMet (known_at R e (suc s.now.number)) demanded.old → AreMet (known_at R e s.now.number) demanded.new × IfSome o (λ z. has e z ≡ true)) }
 {
-    back_op(alloc, demanded, s)?;
+    back_op(alloc, demanded, at, s)?;
     Ok(None)
 }
 
@@ -116,25 +117,25 @@ fn back_plain(
 fn back_step(
     alloc: Global,
     demanded: &mut Demanded,
+    at: Call,
     s: &StepAt,
-    step: &Step,
 ) -> Result<Option<Decision>, AllocError>
     requires number { s.now.number < step_count s.now.reference.now }
     requires edges { EdgesStand s.now.program.now s.now.reference.now }
     ensures step { IfOk result (λ o. IfSome o (λ z. step_of z ≡ s.now.number)) }
     ensures back { IfOk result (λ o. (R : Reference) (e : Taken) (m : Moment)
-        → IsLiveStep R e s.now.program.now s.now.reference.now s.now.instr.now step.now s.now.counts s.now.number m → IsCallOf m s.now.at
+        → IsLiveStep R e s.now.program.now s.now.reference.now s.now.instr.now s.now.step.now s.now.counts s.now.number m → IsCallOf m at
         → AreMet (known_at R e (suc s.now.number)) demanded.old → AreMet (known_at R e s.now.number) demanded.new × IfSome o (λ z. has e z ≡ true)) }
 {
-    match &step.kind {
-        StepKind::Access(a) => back_access(demanded, s.at, s.instr, *a, s.counts.present, s.number),
+    match &s.step.kind {
+        StepKind::Access(a) => back_access(demanded, at, s.instr, *a, s.counts.present, s.number),
         StepKind::Event(e) => {
-            back_event(demanded, s.at, s.instr, e, s.counts.present)?;
+            back_event(demanded, at, s.instr, e, s.counts.present)?;
             Ok(None)
         }
-        StepKind::Branch { .. } => back_branch(alloc, demanded, s),
-        StepKind::Allocation { .. } => back_plain(alloc, demanded, s),
-        StepKind::Other => back_plain(alloc, demanded, s),
+        StepKind::Branch { .. } => back_branch(alloc, demanded, at, s),
+        StepKind::Allocation { .. } => back_plain(alloc, demanded, at, s),
+        StepKind::Other => back_plain(alloc, demanded, at, s),
     }
 }
 
@@ -162,35 +163,22 @@ pub fn back_live(
     alloc: Global,
     demanded: &mut Demanded,
     decisions: &mut DecisionSet,
-    program: &Program,
-    instr: &Instr,
-    step: &Step,
-    reference: &ReferenceRun,
-    counts: Counts,
-    number: usize,
+    s: &StepAt,
 ) -> Result<(), AllocError>
-    requires number { number < step_count reference.now }
-    requires edges { EdgesStand program.now reference.now }
-    requires size { (k : ℕ) × AreOf k decisions.old × (number < k) }
+    requires number { s.now.number < step_count s.now.reference.now }
+    requires edges { EdgesStand s.now.program.now s.now.reference.now }
+    requires size { (k : ℕ) × AreOf k decisions.old × (s.now.number < k) }
     ensures size { (k : ℕ) → AreOf k decisions.old → AreOf k decisions.new }
     ensures kept { AreWithin (taken_by decisions.old) (taken_by decisions.new) }
     ensures less { left_by decisions.new ≤ left_by decisions.old }
-    ensures back { OnOk result ((R : Reference) (e : Taken) (m : Moment) → IsLiveStep R e program.now reference.now instr.now step.now counts number m
+    ensures back { OnOk result ((R : Reference) (e : Taken) (m : Moment) → IsLiveStep R e s.now.program.now s.now.reference.now s.now.instr.now s.now.step.now s.now.counts s.now.number m
         → AreWithin (taken_by decisions.old) e
-        → AreMet (known_at R e (suc number)) demanded.old → AreMet (known_at R e number) demanded.new × AreWithin (taken_by decisions.new) e) }
+        → AreMet (known_at R e (suc s.now.number)) demanded.old → AreMet (known_at R e s.now.number) demanded.new × AreWithin (taken_by decisions.new) e) }
 {
-    let at = call_of(reference, step, number);
-    let s = StepAt {
-        program,
-        reference,
-        instr,
-        at,
-        counts,
-        number,
-    };
-    let due = back_step(alloc, demanded, &s, step)?;
+    let at = call_of(s.reference, s.step, s.number);
+    let due = back_step(alloc, demanded, at, s)?;
     take_due(decisions, due);
-    put_own(demanded, decisions, at, instr, &step.kind, number)?;
-    put_region(demanded, reference, at, number)?;
+    put_own(demanded, decisions, at, s.instr, &s.step.kind, s.number)?;
+    put_region(demanded, s.reference, at, s.number)?;
     Ok(())
 }

@@ -90,11 +90,11 @@ fn back_returned(
 }
 
 /// Back over a branch, a call or a return.
-fn back_flow(alloc: Global, demanded: &mut Demanded, s: &StepAt) -> Result<(), AllocError>
+fn back_flow(alloc: Global, demanded: &mut Demanded, at: Call, s: &StepAt) -> Result<(), AllocError>
     requires number { s.now.number < step_count s.now.reference.now }
     requires edges { EdgesStand s.now.program.now s.now.reference.now }
     ensures { OnOk result ((R : Reference) (e : Taken) (step : AStep) (m : Moment)
-        → IsLiveStep R e s.now.program.now s.now.reference.now s.now.instr.now step s.now.counts s.now.number m → IsCallOf m s.now.at
+        → IsLiveStep R e s.now.program.now s.now.reference.now s.now.instr.now step s.now.counts s.now.number m → IsCallOf m at
         → is_op step.kind ≡ true
         → AreMet (known_at R e (suc s.now.number)) demanded.old → AreMet (known_at R e s.now.number) demanded.new) }
 {
@@ -103,7 +103,7 @@ fn back_flow(alloc: Global, demanded: &mut Demanded, s: &StepAt) -> Result<(), A
             alloc,
             demanded,
             s.program,
-            s.at,
+            at,
             s.instr.block.0,
             edge_of(s.reference, s.number),
             s.counts.present,
@@ -111,15 +111,15 @@ fn back_flow(alloc: Global, demanded: &mut Demanded, s: &StepAt) -> Result<(), A
         return Ok(());
     }
     match &s.instr.op {
-        Op::Call { args, .. } => back_call(alloc, demanded, s.at, None, args.as_slice()),
+        Op::Call { args, .. } => back_call(alloc, demanded, at, None, args.as_slice()),
         Op::Ret { value } => back_returned(
             demanded,
-            s.at,
+            at,
             held(s.reference.target(s.number), s.counts.under),
             *value,
         ),
         _ => {
-            leave_thread(demanded, s.at);
+            leave_thread(demanded, at);
             Ok(())
         }
     }
@@ -130,22 +130,27 @@ fn back_flow(alloc: Global, demanded: &mut Demanded, s: &StepAt) -> Result<(), A
 /// # Errors
 ///
 /// Where no memory is left.
-pub(crate) fn back_op(alloc: Global, demanded: &mut Demanded, s: &StepAt) -> Result<(), AllocError>
+pub(crate) fn back_op(
+    alloc: Global,
+    demanded: &mut Demanded,
+    at: Call,
+    s: &StepAt,
+) -> Result<(), AllocError>
     requires number { s.now.number < step_count s.now.reference.now }
     requires edges { EdgesStand s.now.program.now s.now.reference.now }
     ensures { OnOk result ((R : Reference) (e : Taken) (step : AStep) (m : Moment)
-        → IsLiveStep R e s.now.program.now s.now.reference.now s.now.instr.now step s.now.counts s.now.number m → IsCallOf m s.now.at
+        → IsLiveStep R e s.now.program.now s.now.reference.now s.now.instr.now step s.now.counts s.now.number m → IsCallOf m at
         → is_op step.kind ≡ true
         → AreMet (known_at R e (suc s.now.number)) demanded.old → AreMet (known_at R e s.now.number) demanded.new) }
 {
     if sets_result(&s.instr.op) {
         back_result(
             demanded,
-            s.at,
+            at,
             held(s.instr.result, s.counts.present),
             &s.instr.op,
         )
     } else {
-        back_flow(alloc, demanded, s)
+        back_flow(alloc, demanded, at, s)
     }
 }

@@ -7,6 +7,6 @@ mod path;
 mod step;
 
 pub use asked::Asked;
-pub use path::path_needs;
+pub use path::{PathAt, path_needs};
 pub use pg_slice_memory;
-pub use step::{checked_of, step_needs};
+pub use step::{checked_of, is_start, step_needs};

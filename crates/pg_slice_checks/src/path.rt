@@ -49,9 +49,18 @@ fn load(
     }
 }
 
+/// A path of a region's access at a step: what is known of its root; the offsets of its loads, and the pointers that these were
+/// applied to in the run, as many at least; and the pointer to which it led.
+#[derive(Clone, Copy)]
+pub struct PathAt<'a> {
+    pub root: SymbolicNode,
+    pub offsets: &'a [u64],
+    pub pointers: &'a [u64],
+    pub last: u64,
+}
+
 /// What is asked of a path of a region's access at a step: that the address of each of its loads is known, and is what
-/// it was, and that its last pointer has known bounds, which are those of `last`. `root` is what is known of the path's
-/// root, `offsets` and `pointers` are those of its loads.
+/// it was, and that its last pointer has known bounds, which are those of the one to which it led.
 ///
 /// # Errors
 ///
@@ -61,25 +70,22 @@ pub fn path_needs(
     p: &Program,
     nodes: &mut Nodes,
     memory: &SymbolicMemory,
-    root: SymbolicNode,
-    offsets: &[u64],
-    pointers: &[u64],
-    last: u64,
+    path: &PathAt,
 ) -> Result<(), AllocError>
-    requires count { length offsets.now ≤ length pointers.now }
+    requires count { length path.now.offsets.now ≤ length path.now.pointers.now }
     requires names { AreSymbolicNodes (length nodes.old) memory.now }
-    requires root { IsSymbolicNode (length nodes.old) root }
+    requires root { IsSymbolicNode (length nodes.old) path.now.root }
     ensures grew { Grew nodes.old nodes.new }
-    ensures adds { IfOk result (λ u. (ns : NodeList) (cells : List ByteRange) → Grew nodes.new ns → AreCells offsets.now pointers.now cells →
-        Adds ns (rules.path_needs (symbolics_of p.now ns memory.now) (symbolic_by ns root) offsets.now pointers.now cells last) asked.old asked.new) }
+    ensures adds { IfOk result (λ u. (ns : NodeList) (cells : List ByteRange) → Grew nodes.new ns → AreCells path.now.offsets.now path.now.pointers.now cells →
+        Adds ns (rules.path_needs (symbolics_of p.now ns memory.now) (symbolic_by ns path.now.root) path.now.offsets.now path.now.pointers.now cells path.now.last) asked.old asked.new) }
 {
-    let mut s = root;
-    for i in 0..offsets.len() {
-        let at = offset(nodes, offsets[i], s)?;
-        let address = move_word(pointers[i], offsets[i]);
+    let mut s = path.root;
+    for i in 0..path.offsets.len() {
+        let at = offset(nodes, path.offsets[i], s)?;
+        let address = move_word(path.pointers[i], path.offsets[i]);
         asked.need_value(at, Test::Eq(address))?;
         s = load(p, nodes, memory, place_of(address))?;
     }
-    asked.need_bounds(s, last)?;
+    asked.need_bounds(s, path.last)?;
     Ok(())
 }

@@ -157,7 +157,7 @@ fn equal_needs(
 }
 
 /// Whether an event is the start of a thread.
-fn is_start(kind: TurnKind) -> bool
+pub fn is_start(kind: TurnKind) -> bool
     ensures { result ≡ steps.is_start kind }
 {
     matches!(kind, TurnKind::Start)

@@ -1,6 +1,6 @@
 //! Live steps of a run.
 
-ghost use Rattle.std.specs.Prelude.{◌≡◌, ◌||◌, ◌<◌, ◌≤◌, ℕ, Bool, true, length, slice_index, IsTrue, IfSome, Option, Some, OnOk, is_some};
+ghost use Rattle.std.specs.Prelude.{◌≡◌, ◌<◌, ◌≤◌, ℕ, Bool, true, length, slice_index, IsTrue, IfSome, Option, Some, OnOk, is_some};
 ghost use Rattle.pg_ir.specs.Program.{NumberedProgram};
 ghost use Rattle.pg_run_trace.specs.declared.step.StepKind.{StepKind as AKind};
 ghost use Rattle.pg_run_trace.specs.declared.step.StepKind.TheVariants as kinds;
@@ -21,15 +21,14 @@ ghost use Rattle.pg_slice_passes.specs.State.{AreKept, Knows};
 
 use crate::memory::{forget_instance, load, store, word_of, write};
 use crate::state::SymbolicRun;
-use crate::step::StepAt;
+use crate::step::{AccessAt, EventAt, StepAt};
 use crate::threads::{after_access, after_event, after_op, thread_registers, with_created};
 use pg_ir::{Instr, Op, Program};
 use pg_precondition::Nodes;
-use pg_run_trace::{Access, Event, StepKind, TurnKind};
+use pg_run_trace::{Event, StepKind, TurnKind};
 use pg_slice_decisions::DecisionSet;
 use pg_slice_registers::{OpStep, words_after};
 use pg_slice_replay::ReferenceRun;
-use pg_slice_values::SymbolicNode;
 use std::alloc::AllocError;
 
 /// What is read of the run at a step that is neither an access nor an event.
@@ -50,49 +49,37 @@ pub(crate) fn op_step(d: &DecisionSet, r: &ReferenceRun, n: usize, word: u64) ->
     }
 }
 
-/// Whether a store passes its value on: it is exact, or an event.
-fn is_passed_on(exact: bool, a: Access) -> bool
-    ensures { result ≡ (exact || a.event) }
-{
-    exact || a.event
-}
-
 impl SymbolicRun {
     /// A live load or store.
     fn live_access(
         &mut self,
         nodes: &mut Nodes,
-        p: &Program,
-        x: &Instr,
+        s: &StepAt,
         t: usize,
-        a: Access,
-        n: usize,
-        exact: bool,
+        at: AccessAt,
     ) -> Result<(), AllocError>
-        requires access { IsAccess x.now.op }
-        requires some { 1 ≤ a.bytes }
-        requires count { a.bytes ≤ 8 }
+        requires access { IsAccess s.now.x.now.op }
+        requires some { 1 ≤ at.access.bytes }
+        requires count { at.access.bytes ≤ 8 }
         requires symbolic_nodes { AreKept (length nodes.old) self.old }
         ensures grew { Grew nodes.old nodes.new }
         ensures is { OnOk result (AreKept (length nodes.new) self.new) }
-        ensures value { (d : Taken) (m : Moment) (region : Option FreeRegion) (k : SymbolicState) → d.exact n ≡ exact → thread_in m ≡ t → Knows p.now nodes.old d.pinned self.old k
-            → OnOk result (Knows p.now nodes.new d.pinned self.new (live_by p.now d n m region x.now (kinds.Access a) k)) }
+        ensures value { (d : Taken) (m : Moment) (region : Option FreeRegion) (k : SymbolicState) → d.exact at.number ≡ at.exact → thread_in m ≡ t → Knows s.now.p.now nodes.old d.pinned self.old k
+            → OnOk result (Knows s.now.p.now nodes.new d.pinned self.new (live_by s.now.p.now d at.number m region s.now.x.now (kinds.Access at.access) k)) }
     {
-        match &x.op {
+        match &s.x.op {
             Op::Load { width, .. } => {
-                let s = load(nodes, p, &self.memory, *width, a, n, exact)?;
-                after_access(&mut self.threads, t, x, s);
+                let loaded = load(nodes, s.p, &self.memory, *width, at)?;
+                after_access(&mut self.threads, t, s.x, loaded);
                 Ok(())
             }
             Op::Store { value, .. } => store(
                 nodes,
-                p,
+                s.p,
                 &mut self.memory,
                 *value,
                 thread_registers(self.threads.as_slice(), t),
-                a,
-                n,
-                is_passed_on(exact, a),
+                at,
             ),
             _ => unreachable!(),
         }
@@ -136,28 +123,35 @@ impl SymbolicRun {
         )
     }
 
-    /// The threads after a live event, by the function of the present call and the thread's argument.
+    /// The threads after a live event.
     fn event_threads(
         &mut self,
         nodes: &mut Nodes,
         s: &StepAt,
         t: usize,
-        e: Event,
-        function: u32,
-        argument: SymbolicNode,
+        at: EventAt,
     ) -> Result<(), AllocError>
-        requires call { HasOperands e.kind s.now.x.now.op }
-        requires create { e.kind ≡ Create → slice_index e.operands 2 < length s.now.p.now.functions }
-        requires argument { IsSymbolicNode (length nodes.old) argument }
+        requires call { HasOperands at.event.kind s.now.x.now.op }
+        requires create { at.event.kind ≡ Create → slice_index at.event.operands 2 < length s.now.p.now.functions }
+        requires argument { IsSymbolicNode (length nodes.old) at.argument }
         requires symbolic_nodes { AreKept (length nodes.old) self.old }
         ensures grew { Grew nodes.old nodes.new }
         ensures is { OnOk result (AreKept (length nodes.new) self.new) }
-        ensures value { (m : Moment) (pinned : ℕ → Bool) (k : SymbolicState) → function_in m.calls ≡ function → Knows s.now.p.now nodes.old pinned self.old k
-            → OnOk result (Knows s.now.p.now nodes.new pinned self.new
-            (record k { threads = threads_after s.now.p.now e e.kind (on_thread (along.after_event s.now.p.now m e e.kind (symbolic_by nodes.old argument) s.now.x.now) t k.threads) })) }
+        ensures value { (m : Moment) (pinned : ℕ → Bool) (k : SymbolicState) → function_in m.calls ≡ at.function → Knows s.now.p.now nodes.old pinned self.old k
+            → OnOk result (Knows s.now.p.now nodes.new pinned self.new (record k {
+              threads = threads_after s.now.p.now at.event at.event.kind
+                  (on_thread (along.after_event s.now.p.now m at.event at.event.kind (symbolic_by nodes.old at.argument) s.now.x.now) t k.threads);
+            })) }
     {
-        after_event(nodes, s.p, s.x, t, e, function, argument, &mut self.threads)?;
-        with_created(s.alloc, nodes, s.p, e, &mut self.threads, &mut self.extents)
+        after_event(nodes, s, t, at, &mut self.threads)?;
+        with_created(
+            s.alloc,
+            nodes,
+            s.p,
+            at.event,
+            &mut self.threads,
+            &mut self.extents,
+        )
     }
 
     /// A live event, by the function of the present call.
@@ -181,7 +175,12 @@ impl SymbolicRun {
         let argument = word_of(nodes, self.words.as_slice(), t)?;
         self.event_bytes(nodes, e)?;
         self.event_words(nodes, s.p, s.x, t, e.kind)?;
-        self.event_threads(nodes, s, t, *e, function, argument)
+        let at = EventAt {
+            event: *e,
+            function,
+            argument,
+        };
+        self.event_threads(nodes, s, t, at)
     }
 
     /// A live step that is neither an access nor an event.
@@ -206,16 +205,7 @@ impl SymbolicRun {
             (live_by s.now.p.now (taken_by s.now.d.now) s.now.n m (region_of s.now.p.now regions m (Some s.now.x.now)) s.now.x.now kind k)) }
     {
         let step = op_step(s.d, s.r, s.n, word);
-        after_op(
-            s.alloc,
-            nodes,
-            s.p,
-            s.x,
-            t,
-            step,
-            s.r.marks(s.n),
-            &mut self.threads,
-        )?;
+        after_op(nodes, s, t, step, s.r.marks(s.n), &mut self.threads)?;
         forget_instance(&mut self.memory, s.r, s.n, step)
     }
 
@@ -233,7 +223,14 @@ impl SymbolicRun {
     {
         let t = s.step.thread.0 as usize;
         match &s.step.kind {
-            StepKind::Access(a) => self.live_access(nodes, s.p, s.x, t, *a, s.n, s.d.is_exact(s.n)),
+            StepKind::Access(a) => {
+                let at = AccessAt {
+                    access: *a,
+                    number: s.n,
+                    exact: s.d.is_exact(s.n),
+                };
+                self.live_access(nodes, s, t, at)
+            }
             StepKind::Event(e) => self.live_event(nodes, s, t, e, s.r.function(s.n)),
             StepKind::Allocation { result, .. } => self.live_op(nodes, s, t, *result),
             StepKind::Branch { .. } | StepKind::Other => self.live_op(nodes, s, t, 0),

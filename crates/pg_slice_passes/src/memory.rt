@@ -1,6 +1,6 @@
 //! Memory and the threads' words along a run.
 
-ghost use Rattle.std.specs.Prelude.{◌≡◌, ◌∷◌, [], ◌≤◌, ◌+◌, ◌&&◌, not, ℕ, drop, length, slice_index_or, IfOk, IfSome, OnOk, is_some, if◌then◌else◌};
+ghost use Rattle.std.specs.Prelude.{◌≡◌, ◌∷◌, [], ◌≤◌, ◌+◌, ◌&&◌, ◌||◌, not, ℕ, drop, length, slice_index_or, IfOk, IfSome, OnOk, is_some, if◌then◌else◌};
 ghost use Rattle.pg_ir.specs.declared.instr.Op.TheVariants.{Store};
 ghost use Rattle.pg_ir.specs.declared.value.Value.{Value as AValue};
 ghost use Rattle.pg_ir.specs.Program.{NumberedProgram};
@@ -16,10 +16,11 @@ ghost use Rattle.pg_slice_checks.specs.pg_slice_memory.Changes as bytes;
 ghost use Rattle.pg_slice_registers.specs.SymbolicRegisterNodes.{AreSymbolicNodes, registers_by};
 
 use crate::byte_bounds::{bounds, held, loaded};
+use crate::step::AccessAt;
 use pg_ir::{Program, Value};
 use pg_num::Width;
 use pg_precondition::Nodes;
-use pg_run_trace::{Access, Event, TurnKind, Write};
+use pg_run_trace::{Event, TurnKind, Write};
 use pg_slice_checks::pg_slice_memory::{SymbolicMemory, place_of};
 use pg_slice_registers::OpStep;
 use pg_slice_replay::{FreeAccess, ReferenceRun};
@@ -62,22 +63,27 @@ pub(crate) fn load(
     p: &Program,
     memory: &SymbolicMemory,
     width: Width,
-    a: Access,
-    n: usize,
-    exact: bool,
+    at: AccessAt,
 ) -> Result<SymbolicNode, AllocError>
-    requires some { 1 ≤ a.bytes }
-    requires count { a.bytes ≤ 8 }
+    requires some { 1 ≤ at.access.bytes }
+    requires count { at.access.bytes ≤ 8 }
     requires names { bytes.AreSymbolicNodes (length nodes.old) memory.now }
     ensures grew { Grew nodes.old nodes.new }
     ensures is { IfOk result (IsSymbolicNode (length nodes.new)) }
-    ensures value { IfOk result (λ s. symbolic_by nodes.new s ≡ load_of exact n width a (bytes.symbolics_of p.now nodes.old memory.now)) }
+    ensures value { IfOk result (λ s. symbolic_by nodes.new s ≡ load_of at.exact at.number width at.access (bytes.symbolics_of p.now nodes.old memory.now)) }
 {
-    if !exact {
-        return Ok(SymbolicNode::Unknown(Decision::Exact(n)));
+    if !at.exact {
+        return Ok(SymbolicNode::Unknown(Decision::Exact(at.number)));
     }
-    let number = memory.load(p, nodes, place_of(a.pointer), a.bytes)?;
+    let number = memory.load(p, nodes, place_of(at.access.pointer), at.access.bytes)?;
     within(nodes, width, loaded(number))
+}
+
+/// Whether a store passes its value on: it is exact, or an event.
+fn is_passed_on(at: AccessAt) -> bool
+    ensures { result ≡ (at.exact || at.access.event) }
+{
+    at.exact || at.access.event
 }
 
 /// Memory after a live store: where it is exact or an event it has the value, else what lies within its bounds isn't known.
@@ -87,24 +93,22 @@ pub(crate) fn store(
     memory: &mut SymbolicMemory,
     v: Value,
     registers: &[SymbolicNode],
-    a: Access,
-    n: usize,
-    known: bool,
+    at: AccessAt,
 ) -> Result<(), AllocError>
-    requires count { a.bytes ≤ 8 }
+    requires count { at.access.bytes ≤ 8 }
     requires registers { AreSymbolicNodes (length nodes.old) registers.now }
     requires names { bytes.AreSymbolicNodes (length nodes.old) memory.old }
     ensures grew { Grew nodes.old nodes.new }
     ensures is { OnOk result (bytes.AreSymbolicNodes (length nodes.new) memory.new) }
-    ensures value { (w : AWidth) (at : AValue) (b : ℕ) → OnOk result (bytes.symbolics_of p.now nodes.new memory.new b
-        ≡ bytes_stored p.now known n a (registers_by nodes.old registers.now) (Store w v at) (bytes.symbolics_of p.now nodes.old memory.old) b) }
+    ensures value { (w : AWidth) (address : AValue) (b : ℕ) → OnOk result (bytes.symbolics_of p.now nodes.new memory.new b
+        ≡ bytes_stored p.now (at.exact || at.access.event) at.number at.access (registers_by nodes.old registers.now) (Store w v address) (bytes.symbolics_of p.now nodes.old memory.old) b) }
 {
-    if known {
+    if is_passed_on(at) {
         let s = value(nodes, p, v, registers)?;
-        memory.store(place_of(a.pointer), a.bytes, held(s))
+        memory.store(place_of(at.access.pointer), at.access.bytes, held(s))
     } else {
-        let f = bounds(a.pointer);
-        memory.spoil(f.start, f.bytes, Decision::Exact(n))
+        let f = bounds(at.access.pointer);
+        memory.spoil(f.start, f.bytes, Decision::Exact(at.number))
     }
 }
 

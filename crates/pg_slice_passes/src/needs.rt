@@ -37,7 +37,7 @@ use pg_precondition::Nodes;
 use pg_region_paths::{Loads, Root, RootPath};
 use pg_run_trace::StepKind;
 use pg_slice_checks::pg_slice_memory::SymbolicMemory;
-use pg_slice_checks::{Asked, path_needs, step_needs};
+use pg_slice_checks::{Asked, PathAt, path_needs, step_needs};
 use pg_slice_decisions::DecisionSet;
 use pg_slice_registers::operand;
 use pg_slice_replay::{FreeAccess, ReferenceRun, offsets};
@@ -122,16 +122,13 @@ fn followed_needs(
     let (offsets, count) = offsets(access.path.loads);
     let at = first(&offsets, count);
     let pointers = first(&access.pointers, count);
-    path_needs(
-        asked,
-        frame.p,
-        nodes,
-        frame.memory,
-        from,
-        at,
+    let path = PathAt {
+        root: from,
+        offsets: at,
         pointers,
-        access.last,
-    )?;
+        last: access.last,
+    };
+    path_needs(asked, frame.p, nodes, frame.memory, &path)?;
     Ok(())
 }
 

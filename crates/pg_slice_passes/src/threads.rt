@@ -24,6 +24,7 @@ ghost use Rattle.pg_slice_registers.specs.Steps.{IsStepAt, is_plain};
 ghost use Rattle.pg_slice_registers.specs.Threads.{AreThreads};
 ghost use Rattle.pg_slice_passes.specs.State.{EachOpen, KnowsThreads, extents_in};
 
+use crate::step::{EventAt, StepAt};
 use pg_ir::{Instr, Program};
 use pg_precondition::Nodes;
 use pg_run_trace::{Event, TurnKind};
@@ -87,29 +88,27 @@ pub(crate) fn after_access(
     }
 }
 
-/// The calls of the threads after an event of one of them, by the function of its present call and its argument.
+/// The calls of the threads after an event of one of them.
 pub(crate) fn after_event(
     nodes: &mut Nodes,
-    p: &Program,
-    x: &Instr,
+    s: &StepAt,
     t: usize,
-    e: Event,
-    function: u32,
-    argument: SymbolicNode,
+    at: EventAt,
     threads: &mut Vec<SymbolicRegisters>,
 ) -> Result<(), AllocError>
-    requires call { HasOperands e.kind x.now.op }
-    requires argument { IsSymbolicNode (length nodes.old) argument }
+    requires call { HasOperands at.event.kind s.now.x.now.op }
+    requires argument { IsSymbolicNode (length nodes.old) at.argument }
     requires symbolic_nodes { AreThreads (length nodes.old) threads.old.items }
     ensures grew { Grew nodes.old nodes.new }
     ensures is { OnOk result (AreThreads (length nodes.new) threads.new.items) }
-    ensures value { (m : Moment) (pinned : ℕ → Bool) (opens : List AnOpen) (ks : List SymbolicThread) → function_in m.calls ≡ function
+    ensures value { (m : Moment) (pinned : ℕ → Bool) (opens : List AnOpen) (ks : List SymbolicThread) → function_in m.calls ≡ at.function
         → KnowsThreads nodes.old pinned threads.old.items opens ks
-        → OnOk result (KnowsThreads nodes.new pinned threads.new.items opens (on_thread (along.after_event p.now m e e.kind (symbolic_by nodes.old argument) x.now) t ks)) }
+        → OnOk result (KnowsThreads nodes.new pinned threads.new.items opens
+        (on_thread (along.after_event s.now.p.now m at.event at.event.kind (symbolic_by nodes.old at.argument) s.now.x.now) t ks)) }
 {
     if t < threads.len() {
         let thread = &mut threads[t];
-        thread.after_event(nodes, p, x, e, function, argument)
+        thread.after_event(nodes, s.p, s.x, at.event, at.function, at.argument)
     } else {
         Ok(())
     }
@@ -117,28 +116,26 @@ pub(crate) fn after_event(
 
 /// The calls of the threads after a live step of one of them that is neither an access nor an event, by what the run has at it.
 pub(crate) fn after_op(
-    alloc: Global,
     nodes: &mut Nodes,
-    p: &Program,
-    x: &Instr,
+    s: &StepAt,
     t: usize,
     step: OpStep,
     sets: &[bool],
     threads: &mut Vec<SymbolicRegisters>,
 ) -> Result<(), AllocError>
-    requires plain { IsTrue (is_plain x.now.op) }
-    requires cast { CastFits x.now.op }
-    requires block { IfSome step.edge (λ b. b < length p.now.blocks) }
+    requires plain { IsTrue (is_plain s.now.x.now.op) }
+    requires cast { CastFits s.now.x.now.op }
+    requires block { IfSome step.edge (λ b. b < length s.now.p.now.blocks) }
     requires symbolic_nodes { AreThreads (length nodes.old) threads.old.items }
     ensures grew { Grew nodes.old nodes.new }
     ensures is { OnOk result (AreThreads (length nodes.new) threads.new.items) }
-    ensures value { (m : Moment) (region : Option FreeRegion) (pinned : ℕ → Bool) (opens : List AnOpen) (ks : List SymbolicThread) → IsStepAt p.now x.now step sets.now m region
+    ensures value { (m : Moment) (region : Option FreeRegion) (pinned : ℕ → Bool) (opens : List AnOpen) (ks : List SymbolicThread) → IsStepAt s.now.p.now s.now.x.now step sets.now m region
         → KnowsThreads nodes.old pinned threads.old.items opens ks
-        → OnOk result (KnowsThreads nodes.new pinned threads.new.items opens (on_thread (along.after_op p.now step.pinned step.number m region step.word x.now x.now.op) t ks)) }
+        → OnOk result (KnowsThreads nodes.new pinned threads.new.items opens (on_thread (along.after_op s.now.p.now step.pinned step.number m region step.word s.now.x.now s.now.x.now.op) t ks)) }
 {
     if t < threads.len() {
         let thread = &mut threads[t];
-        thread.after_op(alloc, nodes, p, x, step, sets)
+        thread.after_op(s.alloc, nodes, s.p, s.x, step, sets)
     } else {
         Ok(())
     }

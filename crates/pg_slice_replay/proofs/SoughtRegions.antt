@@ -10,6 +10,7 @@ use Rattle.pg_cfg.specs.Graphs.Enters.{now, after}
 use Rattle.pg_ir.specs.Program.{NumberedProgram}
 use Rattle.pg_region_accesses.specs.Accesses.{RootedList}
 use Rattle.pg_region.specs.declared.region.Region.{Region}
+use Rattle.pg_region.specs.Alike.{HasRegionOf}
 use Rattle.pg_region.specs.Finders.{FinderParts, IsFinder}
 use Rattle.pg_region.specs.Regions.{RegionOf, flow_of}
 use Rattle.pg_region.proofs.FlowGraphs.{flow_size, reach_within}
@@ -18,7 +19,7 @@ use Rattle.pg_run_trace.specs.declared.step.Step.{Step}
 use Rattle.pg_slice_replay.specs.declared.found.FoundRegion.{FoundRegion}
 use Rattle.pg_slice_replay.specs.declared.found.Sought.{Sought}
 use Rattle.pg_slice_replay.specs.declared.found.Sought.TheVariants as sought
-use Rattle.pg_slice_replay.specs.Sought.{AddsRegion, AreFound, IsFoundAs, IsFoundIn, IsKeptIn, WasSought, WithinProgram, was_sought}
+use Rattle.pg_slice_replay.specs.Sought.{AddsRegion, AreFound, IsFoundAs, IsFoundIn, IsKeptIn, IsNowKnown, WasSought, WithinProgram, was_sought}
 
 -- ---- none was sought
 
@@ -69,21 +70,39 @@ own_sought : (p : NumberedProgram) (region : Option Region) (old : List FoundReg
 own_sought p None old s new a = ap (λ (x : Sought). was_sought (Some x)) a.0
 own_sought p (Some r) old s new a = ap (λ (x : Sought). was_sought (Some x)) a.1.number
 
-module _ (p : NumberedProgram) (gated : ℕ → Bool) (sums : ℕ → Option RootedList) (region : Option Region) (blocks : List Sought) (old : List FoundRegion) (s : Sought)
-    (new : List FoundRegion) (b : ℕ) (below : b < length p.blocks) (h : AreFound p gated sums blocks old) (a : AddsRegion p region old s new) where
-  own_block : slice_get (slice_set blocks b s) b ≡ Some s
-  own_block = set_own blocks b s (omega (arith, below, h.count))
+-- a region that was added
+pub added_known : (p : NumberedProgram) (gated : ℕ → Bool) (sums : ℕ → Option RootedList) (region : Option Region) (blocks : List Sought) (old : List FoundRegion) (s : Sought)
+    (new : List FoundRegion) (c : ℕ) → AreFound p gated sums blocks old → AddsRegion p region old s new → RegionOf p gated sums c region → IsNowKnown p gated sums blocks new c s
+added_known p gated sums region blocks old s new c h a r = record {
+  others = record { count = h.count; found = λ d. others_more p gated sums region old s new d (slice_get blocks d) a (h.found d) };
+  own = own_found p gated sums region old s new c a r;
+  sought = own_sought p region old s new a;
+}
 
-  pub seek_more : RegionOf p gated sums b region → AreFound p gated sums (slice_set blocks b s) new
-  seek_more r = record { count = set_length blocks b s ∙ h.count; found = λ c. go c (cases_eq c b) }
+-- the region of another block's branch, which was sought
+pub like_known : (p : NumberedProgram) (gated : ℕ → Bool) (sums : ℕ → Option RootedList) (blocks : List Sought) (regions : List FoundRegion) (s : Sought) (b c : ℕ)
+    → AreFound p gated sums blocks regions → slice_get blocks b ≡ Some s → was_sought (Some s) ≡ true → HasRegionOf p gated sums b c → IsNowKnown p gated sums blocks regions c s
+like_known p gated sums blocks regions s b c h at known k = record { others = h; own = own s (subst (IsFoundIn p gated sums regions b) at (h.found b)); sought = known }
+  where
+    own : (s : Sought) → IsFoundAs p gated sums regions b s → IsFoundAs p gated sums regions c s
+    own sought.Unsought f = tt
+    own sought.Nothing f = k.1 None f
+    own (sought.At n) f = (f.0, k.1 (Some f.0) f.1, f.2)
+
+module _ (p : NumberedProgram) (gated : ℕ → Bool) (sums : ℕ → Option RootedList) (blocks : List Sought) (s : Sought) (regions : List FoundRegion) (b : ℕ) (below : b < length p.blocks)
+    (h : IsNowKnown p gated sums blocks regions b s) where
+  own_block : slice_get (slice_set blocks b s) b ≡ Some s
+  own_block = set_own blocks b s (omega (arith, below, h.others.count))
+
+  pub seek_more : AreFound p gated sums (slice_set blocks b s) regions
+  seek_more = record { count = set_length blocks b s ∙ h.others.count; found = λ c. go c (cases_eq c b) }
     where
-      go : (c : ℕ) → (c ≡ b) ⊎ (c ≡ b → ⊥) → IsFoundIn p gated sums new c (slice_get (slice_set blocks b s) c)
-      go c (inl e) = subst (λ (d : ℕ). IsFoundIn p gated sums new d (slice_get (slice_set blocks b s) d)) (sym e)
-          (subst (IsFoundIn p gated sums new b) (sym own_block) (own_found p gated sums region old s new b a r))
-      go c (inr d) = subst (IsFoundIn p gated sums new c) (sym (set_other blocks b c s d)) (others_more p gated sums region old s new c (slice_get blocks c) a (h.found c))
+      go : (c : ℕ) → (c ≡ b) ⊎ (c ≡ b → ⊥) → IsFoundIn p gated sums regions c (slice_get (slice_set blocks b s) c)
+      go c (inl e) = subst (λ (d : ℕ). IsFoundIn p gated sums regions d (slice_get (slice_set blocks b s) d)) (sym e) (subst (IsFoundIn p gated sums regions b) (sym own_block) h.own)
+      go c (inr d) = subst (IsFoundIn p gated sums regions c) (sym (set_other blocks b c s d)) (h.others.found c)
 
   pub seek_own : was_sought (slice_get (slice_set blocks b s) b) ≡ true
-  seek_own = ap was_sought own_block ∙ own_sought p region old s new a
+  seek_own = ap was_sought own_block ∙ h.sought
 
   pub seek_kept : (c : ℕ) → was_sought (slice_get blocks c) ≡ true → was_sought (slice_get (slice_set blocks b s) c) ≡ true
   seek_kept c e = go (cases_eq c b)
@@ -109,3 +128,16 @@ region_within p gated sums f c (Some q) h r =
 
 pub not_there : (p : NumberedProgram) (blocks : List Sought) (x : Step) → length p.instrs ≤ x.instr.0 → WasSought p blocks x
 not_there p blocks x le i at b = absurd (omega (arith, le, slice_get_within p.instrs x.instr.0 i at))
+
+same_step : (a b : Step) → Some a ≡ Some b → a ≡ b
+same_step a b k = cc
+
+-- one step more
+pub sought_more : (p : NumberedProgram) (steps : List Step) (old new : List Sought) (i : ℕ) (did : Step) → ((n : ℕ) (x : Step) → n < i → slice_get steps n ≡ Some x → WasSought p old x)
+    → ((c : ℕ) → was_sought (slice_get old c) ≡ true → was_sought (slice_get new c) ≡ true) → slice_get steps i ≡ Some did → WasSought p new did →
+    (n : ℕ) (x : Step) → n < i + 1 → slice_get steps n ≡ Some x → WasSought p new x
+sought_more p steps old new i did before kept at this n x lt e = go (cases_eq n i)
+  where
+    go : (n ≡ i) ⊎ (n ≡ i → ⊥) → WasSought p new x
+    go (inl q) = subst (WasSought p new) (same_step did x (sym at ∙ subst (λ (k : ℕ). slice_get steps k ≡ Some x) q e)) this
+    go (inr d) = λ y a b. kept y.block.0 (before n x (omega (arith, lt, d)) e y a b)

@@ -67,6 +67,12 @@ was_sought None = false
 was_sought (Some sought.Unsought) = false
 was_sought (Some s) = true
 
+-- s is what is known of the block c from now on, by these regions, and what was known of other blocks stands
+pub record IsNowKnown (p : NumberedProgram) (gated : ℕ → Bool) (sums : ℕ → Option RootedList) (blocks : List Sought) (regions : List FoundRegion) (c : ℕ) (s : Sought) : Type 0 where
+  pub others : AreFound p gated sums blocks regions
+  pub own : IsFoundAs p gated sums regions c s
+  pub sought : was_sought (Some s) ≡ true
+
 -- the branch of a branch step was sought
 abbrev pub WasSought : NumberedProgram → List Sought → Step → Type 0
 WasSought p blocks x = (i : Instr) → slice_get p.instrs x.instr.0 ≡ Some i → is_branch x.kind ≡ true → was_sought (slice_get blocks i.block.0) ≡ true

@@ -10,6 +10,7 @@ use crate::apart::store_on_loads;
 use crate::at::{At, cut, from};
 use crate::follow::follow_each;
 use crate::found::{FoundRegion, Regions, Sought};
+use crate::given::TracedRun;
 use crate::row::FreeStep;
 use crate::share::{again, begun, keep};
 use pg_ir::{Program, ThreadNo};
@@ -121,25 +122,25 @@ fn free_by(
 /// What makes a step freeable, if it is, by the state before it; adds where the accesses of its region lead.
 pub(crate) fn free_step(
     machine: &Machine,
-    p: &Program,
-    regions: &Regions,
+    run: &TracedRun,
     step: &Step,
     ats: &mut Vec<At>,
     last: &mut [Option<u32>],
 ) -> Result<Option<FreeStep>, AllocError>
-    requires { step.now.instr.0 < length p.now.instrs }
+    requires { step.now.instr.0 < length run.now.program.now.instrs }
     ensures { IfOk result (λ f. (xs : List At)
-        × IsFreed (freed_in p.now regions.now.blocks.items regions.now.regions.items machine.now.state step.now) regions.now.regions.items ats.old.items ats.new.items xs f) }
+        × IsFreed (freed_in run.now.program.now run.now.regions.now.blocks.items run.now.regions.now.regions.items machine.now.state step.now)
+        run.now.regions.now.regions.items ats.old.items ats.new.items xs f) }
 {
     let StepKind::Branch { .. } = step.kind else {
         return Ok(None);
     };
-    match region_number(regions, p.instr(step.instr).block.0) {
+    match region_number(run.regions, run.program.instr(step.instr).block.0) {
         Some(number) => free_by(
             machine,
-            p,
+            run.program,
             step.thread,
-            regions.regions.as_slice(),
+            run.regions.regions.as_slice(),
             number,
             ats,
             last,

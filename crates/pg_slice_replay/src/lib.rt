@@ -8,6 +8,7 @@ mod edge;
 mod follow;
 mod found;
 mod free;
+mod given;
 pub mod laws;
 mod may_set;
 mod replay;

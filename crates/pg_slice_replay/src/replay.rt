@@ -16,6 +16,7 @@ ghost use Rattle.pg_slice_replay.specs.Targets.{AreTargets};
 
 use crate::at::At;
 use crate::found::{FoundRegion, Regions as FoundRegions};
+use crate::given::TracedRun;
 use crate::row::Row;
 use crate::run::ReferenceRun;
 use crate::seek::regions_of;
@@ -30,28 +31,26 @@ use std::alloc::{AllocError, Global};
 /// Takes the steps of a trace one after another, and keeps what it lacks of each.
 fn replay(
     alloc: Global,
-    p: &Program,
-    t: &Trace,
-    regions: &FoundRegions,
+    run: &TracedRun,
     machine: &mut Machine,
     targets: &mut Targets,
     rows: &mut Vec<Row>,
     ats: &mut Vec<At>,
     last: &mut [Option<u32>],
 ) -> Result<(), AllocError>
-    requires of { IsMachine p.now machine.old.state }
-    requires targets { AreTargets p.now targets.old.kept.items machine.old.state }
-    requires run { (z : State) × IsRun machine.old.gated p.now machine.old.input machine.old.state t.now.steps z }
+    requires of { IsMachine run.now.program.now machine.old.state }
+    requires targets { AreTargets run.now.program.now targets.old.kept.items machine.old.state }
+    requires run { (z : State) × IsRun machine.old.gated run.now.program.now machine.old.input machine.old.state run.now.trace.now.steps z }
     requires rows { rows.old.items ≡ [] }
-    ensures rows { OnOk result (map (landmark_in ats.new.items regions.now.regions.items) rows.new.items
-        ≡ told_along (λ s x. landmark_with p.now (freed_in p.now regions.now.blocks.items regions.now.regions.items s x) s x) machine.old.gated p.now machine.old.input machine.old.state
-        t.now.steps) }
+    ensures rows { OnOk result (map (landmark_in ats.new.items run.now.regions.now.regions.items) rows.new.items
+        ≡ told_along (λ s x. landmark_with run.now.program.now (freed_in run.now.program.now run.now.regions.now.blocks.items run.now.regions.now.regions.items s x) s x)
+        machine.old.gated run.now.program.now machine.old.input machine.old.state run.now.trace.now.steps) }
 {
-    for i in 0..t.len() {
-        let step = t.step(i);
-        let row = row_of(machine, p, regions, targets, &step, ats, last)?;
+    for i in 0..run.trace.len() {
+        let step = run.trace.step(i);
+        let row = row_of(machine, run, targets, &step, ats, last)?;
         rows.push(row)?;
-        take_step(alloc, p, machine, targets, &step)?;
+        take_step(alloc, run.program, machine, targets, &step)?;
     }
     Ok(())
 }
@@ -74,11 +73,14 @@ fn rows(
     let mut rows = Vec::with_capacity(alloc, t.len())?;
     let mut ats = Vec::new(alloc);
     let mut last = none_of(alloc, regions.regions.len())?;
+    let run = TracedRun {
+        program: p,
+        trace: t,
+        regions,
+    };
     replay(
         alloc,
-        p,
-        t,
-        regions,
+        &run,
         &mut machine,
         &mut targets,
         &mut rows,

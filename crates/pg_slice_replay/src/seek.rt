@@ -4,16 +4,17 @@ ghost use Rattle.std.specs.Prelude.{◌≡◌, ℕ, ◌<◌, Bool, Option, lengt
 ghost use Rattle.pg_ir.specs.declared.ids.InstrId.{InstrId};
 ghost use Rattle.pg_region_accesses.specs.Accesses.{RootedList, is_gated, summary_of};
 ghost use Rattle.pg_region_accesses.specs.Tables.{in_table};
+ghost use Rattle.pg_region.specs.Alike.{AreKept, HasRegionOf, IsFound};
 ghost use Rattle.pg_region.specs.Finders.{IsFinder};
-ghost use Rattle.pg_region.specs.Regions.{block_of};
+ghost use Rattle.pg_region.specs.Regions.{RegionOf, block_of};
 ghost use Rattle.pg_run_trace.specs.declared.step.Step.{Step};
 ghost use Rattle.pg_slice_rules.specs.Known.{is_branch};
-ghost use Rattle.pg_slice_replay.specs.Sought.{AddsRegion, AreFound, IsKept, WasSought, WithinProgram, was_sought};
+ghost use Rattle.pg_slice_replay.specs.Sought.{AddsRegion, AreFound, IsKept, IsNowKnown, WasSought, WithinProgram, was_sought};
 
 use crate::found::{FoundRegion, Regions, Sought};
 use crate::may_set::may_set;
 use pg_ir::{InstrId, Program};
-use pg_region::{Finder, Region};
+use pg_region::{Alike, Finder, Found, Region};
 use pg_region_accesses::{Summary, block_count};
 use pg_run_trace::{Step, StepKind, Trace};
 use std::alloc::{AllocError, Global};
@@ -80,6 +81,99 @@ fn was_sought(known: Sought) -> bool
     }
 }
 
+/// Adds a region that was found, if there is one, and gives what is known of its block.
+fn added(
+    alloc: Global,
+    p: &Program,
+    known: &mut Regions,
+    region: Option<Region>,
+) -> Result<Sought, AllocError>
+    requires { WithinProgram p.now region }
+    ensures blocks { known.new.blocks.items ≡ known.old.blocks.items }
+    ensures known { IfOk result (λ s. (gated : ℕ → Bool) (sums : ℕ → Option RootedList) (c : ℕ) → AreFound p.now gated sums known.old.blocks.items known.old.regions.items
+        → RegionOf p.now gated sums c region → IsNowKnown p.now gated sums known.old.blocks.items known.new.regions.items c s) }
+{
+    let sought = add_region(alloc, p, &mut known.regions, region)?;
+    Ok(sought)
+}
+
+/// Seeks the region of a branch by itself, and gives what is known of its block.
+fn seek_own(
+    alloc: Global,
+    p: &Program,
+    finder: &Finder,
+    sums: &[Option<Summary>],
+    known: &mut Regions,
+    branch: InstrId,
+) -> Result<Sought, AllocError>
+    requires finder { IsFinder p.now (summary_of sums.now) finder.now }
+    requires branch { branch.0 < length p.now.instrs }
+    requires found { AreFound p.now (in_table finder.now.gated) (summary_of sums.now) known.old.blocks.items known.old.regions.items }
+    ensures blocks { known.new.blocks.items ≡ known.old.blocks.items }
+    ensures known { IfOk result (IsNowKnown p.now (in_table finder.now.gated) (summary_of sums.now) known.old.blocks.items known.new.regions.items (block_of p.now branch.0)) }
+{
+    let region = finder.region(alloc, p, sums, branch)?;
+    let sought = added(alloc, p, known, region)?;
+    Ok(sought)
+}
+
+/// What is known of a block.
+fn sought_at(blocks: &[Sought], block: u32) -> Sought
+    requires { block < length blocks.now }
+    ensures { slice_get blocks.now block ≡ Some result }
+{
+    blocks[block as usize]
+}
+
+/// What is known of the block of a branch that has the region of another block's: that was sought before, or is sought now.
+fn known_like(
+    alloc: Global,
+    p: &Program,
+    finder: &Finder,
+    sums: &[Option<Summary>],
+    known: &mut Regions,
+    branch: InstrId,
+    other: u32,
+) -> Result<Sought, AllocError>
+    requires finder { IsFinder p.now (summary_of sums.now) finder.now }
+    requires branch { branch.0 < length p.now.instrs }
+    requires found { AreFound p.now (in_table finder.now.gated) (summary_of sums.now) known.old.blocks.items known.old.regions.items }
+    requires other { other < length p.now.blocks }
+    requires like { HasRegionOf p.now (in_table finder.now.gated) (summary_of sums.now) other (block_of p.now branch.0) }
+    ensures blocks { known.new.blocks.items ≡ known.old.blocks.items }
+    ensures known { IfOk result (IsNowKnown p.now (in_table finder.now.gated) (summary_of sums.now) known.old.blocks.items known.new.regions.items (block_of p.now branch.0)) }
+{
+    let sought = sought_at(known.blocks.as_slice(), other);
+    let is_known = was_sought(sought);
+    if is_known {
+        return Ok(sought);
+    }
+    seek_own(alloc, p, finder, sums, known, branch)
+}
+
+/// What is known of a branch's block by what was found of the branch.
+fn known_as(
+    alloc: Global,
+    p: &Program,
+    finder: &Finder,
+    sums: &[Option<Summary>],
+    known: &mut Regions,
+    branch: InstrId,
+    found: Found,
+) -> Result<Sought, AllocError>
+    requires finder { IsFinder p.now (summary_of sums.now) finder.now }
+    requires branch { branch.0 < length p.now.instrs }
+    requires before { AreFound p.now (in_table finder.now.gated) (summary_of sums.now) known.old.blocks.items known.old.regions.items }
+    requires found { IsFound p.now (in_table finder.now.gated) (summary_of sums.now) (block_of p.now branch.0) found }
+    ensures blocks { known.new.blocks.items ≡ known.old.blocks.items }
+    ensures known { IfOk result (IsNowKnown p.now (in_table finder.now.gated) (summary_of sums.now) known.old.blocks.items known.new.regions.items (block_of p.now branch.0)) }
+{
+    match found {
+        Found::Of(region) => added(alloc, p, known, region),
+        Found::Like(other) => known_like(alloc, p, finder, sums, known, branch, other),
+    }
+}
+
 /// Seeks the region of a branch, unless it was sought before.
 fn seek(
     alloc: Global,
@@ -87,21 +181,24 @@ fn seek(
     finder: &Finder,
     sums: &[Option<Summary>],
     known: &mut Regions,
+    alike: &mut Alike,
     branch: InstrId,
 ) -> Result<(), AllocError>
     requires finder { IsFinder p.now (summary_of sums.now) finder.now }
     requires branch { branch.0 < length p.now.instrs }
     requires found { AreFound p.now (in_table finder.now.gated) (summary_of sums.now) known.old.blocks.items known.old.regions.items }
+    requires alike { AreKept finder.now alike.old }
     ensures found { OnOk result (AreFound p.now (in_table finder.now.gated) (summary_of sums.now) known.new.blocks.items known.new.regions.items) }
     ensures sought { OnOk result (was_sought (slice_get known.new.blocks.items (block_of p.now branch.0)) ≡ true) }
     ensures kept { OnOk result ((c : ℕ) → was_sought (slice_get known.old.blocks.items c) ≡ true → was_sought (slice_get known.new.blocks.items c) ≡ true) }
+    ensures alike { OnOk result (AreKept finder.now alike.new) }
 {
     let block = p.instr(branch).block.0 as usize;
     if was_sought(known.blocks[block]) {
         return Ok(());
     }
-    let region = finder.region(alloc, p, sums, branch)?;
-    let sought = add_region(alloc, p, &mut known.regions, region)?;
+    let found = finder.find(alloc, p, sums, alike, branch)?;
+    let sought = known_as(alloc, p, finder, sums, known, branch, found)?;
     known.blocks[block] = sought;
     Ok(())
 }
@@ -123,13 +220,16 @@ fn seek_step(
     finder: &Finder,
     sums: &[Option<Summary>],
     known: &mut Regions,
+    alike: &mut Alike,
     step: &Step,
 ) -> Result<(), AllocError>
     requires finder { IsFinder p.now (summary_of sums.now) finder.now }
     requires found { AreFound p.now (in_table finder.now.gated) (summary_of sums.now) known.old.blocks.items known.old.regions.items }
+    requires alike { AreKept finder.now alike.old }
     ensures found { OnOk result (AreFound p.now (in_table finder.now.gated) (summary_of sums.now) known.new.blocks.items known.new.regions.items) }
     ensures sought { OnOk result (WasSought p.now known.new.blocks.items step.now) }
     ensures kept { OnOk result ((c : ℕ) → was_sought (slice_get known.old.blocks.items c) ≡ true → was_sought (slice_get known.new.blocks.items c) ≡ true) }
+    ensures alike { OnOk result (AreKept finder.now alike.new) }
 {
     if !is_branch(&step.kind) {
         return Ok(());
@@ -137,7 +237,7 @@ fn seek_step(
     if step.instr.0 >= p.instr_count() {
         return Ok(());
     }
-    seek(alloc, p, finder, sums, known, step.instr)
+    seek(alloc, p, finder, sums, known, alike, step.instr)
 }
 
 /// Seeks the region of each branch step of a trace.
@@ -153,9 +253,10 @@ fn seek_each(
     ensures sought { IfOk result (λ r. (n : ℕ) (x : Step) → slice_get t.now.steps n ≡ Some x → WasSought p.now r.blocks.items x) }
 {
     let mut known = none_known(alloc, p)?;
+    let mut alike = Alike::none(alloc);
     for i in 0..t.len() {
         let step = t.step(i);
-        seek_step(alloc, p, finder, sums, &mut known, &step)?;
+        seek_step(alloc, p, finder, sums, &mut known, &mut alike, &step)?;
     }
     Ok(known)
 }

@@ -15,8 +15,8 @@ ghost use Rattle.pg_slice_replay.specs.Targets.{AreTargets, target_in};
 
 use crate::at::At;
 use crate::edge::edge;
-use crate::found::Regions;
 use crate::free::free_step;
+use crate::given::TracedRun;
 use crate::row::Row;
 use crate::targets::Targets;
 use pg_ir::Program;
@@ -27,27 +27,30 @@ use std::alloc::{AllocError, Global};
 /// What is kept of a step, by the state before it; adds where the accesses of its region lead.
 pub(crate) fn row_of(
     machine: &Machine,
-    p: &Program,
-    regions: &Regions,
+    run: &TracedRun,
     targets: &Targets,
     step: &Step,
     ats: &mut Vec<At>,
     last: &mut [Option<u32>],
 ) -> Result<Row, AllocError>
-    requires { step.now.instr.0 < length p.now.instrs }
+    requires { step.now.instr.0 < length run.now.program.now.instrs }
     ensures depth { IfOk result (λ r. r.depth ≡ depth_of machine.now.state step.now.thread.0) }
-    ensures function { IfOk result (λ r. r.function ≡ function_of p.now (block_of p.now step.now.instr.0)) }
-    ensures edge { IfOk result (λ r. r.edge ≡ edge_of p.now (moment_in machine.now.state step.now) step.now.kind) }
+    ensures function { IfOk result (λ r. r.function ≡ function_of run.now.program.now (block_of run.now.program.now step.now.instr.0)) }
+    ensures edge { IfOk result (λ r. r.edge ≡ edge_of run.now.program.now (moment_in machine.now.state step.now) step.now.kind) }
     ensures target { IfOk result (λ r. r.target ≡ target_in targets.now.kept.items step.now.thread.0 (depth_of machine.now.state step.now.thread.0)) }
     ensures free { IfOk result (λ r. (xs : List At)
-        × IsFreed (freed_in p.now regions.now.blocks.items regions.now.regions.items machine.now.state step.now) regions.now.regions.items ats.old.items ats.new.items xs r.free) }
+        × IsFreed (freed_in run.now.program.now run.now.regions.now.blocks.items run.now.regions.now.regions.items machine.now.state step.now)
+        run.now.regions.now.regions.items ats.old.items ats.new.items xs r.free) }
 {
     let depth = machine.depth(step.thread);
-    let free = free_step(machine, p, regions, step, ats, last)?;
+    let free = free_step(machine, run, step, ats, last)?;
     Ok(Row {
         depth,
-        function: p.block(p.instr(step.instr).block).function,
-        edge: edge(machine, p, step),
+        function: run
+            .program
+            .block(run.program.instr(step.instr).block)
+            .function,
+        edge: edge(machine, run.program, step),
         target: targets.target(step.thread, depth),
         free,
     })

@@ -5,6 +5,7 @@ pub mod RegionSettings
 pub mod StepsInExtents
 pub mod PassedExtents
 pub mod ThreadWords
+pub mod EventKinds
 pub mod WordsBack
 pub mod PinnedBranches
 pub mod SettledExtents

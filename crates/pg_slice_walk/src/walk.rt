@@ -24,7 +24,7 @@ use pg_ir::{Program, ThreadNo};
 use pg_run_trace::Trace;
 use pg_slice_back::pg_slice_decisions::DecisionSet;
 use pg_slice_back::pg_slice_replay::ReferenceRun;
-use pg_slice_back::{Counts, sets_any};
+use pg_slice_back::{Counts, StepAt, sets_any};
 use pg_slice_demands::{Call, Demanded};
 use pg_slice_rules::Decision;
 use std::alloc::{AllocError, Global};
@@ -183,18 +183,15 @@ fn back(
         None => {
             let instr = walk.program.instr(step.instr);
             let count = counts_at(walk.counts, number);
-            back_one(
-                alloc,
-                demanded,
-                words,
-                decisions,
-                walk.program,
+            let s = StepAt {
+                program: walk.program,
+                reference: walk.reference,
                 instr,
-                &step,
-                walk.reference,
-                count,
+                step: &step,
+                counts: count,
                 number,
-            )?;
+            };
+            back_one(alloc, demanded, words, decisions, &s)?;
             Ok(number)
         }
     }

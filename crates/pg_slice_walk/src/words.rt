@@ -8,7 +8,7 @@ ghost use Rattle.pg_ir.specs.Program.{NumberedProgram, parameter_count};
 ghost use Rattle.pg_run_trace.specs.declared.step.Step.{Step as AStep};
 ghost use Rattle.pg_run_trace.specs.declared.step.Event.{Event as AnEvent};
 ghost use Rattle.pg_run_trace.specs.declared.step.Write.{Write as AWrite};
-ghost use Rattle.pg_run_trace.specs.declared.turn.TurnKind.TheVariants.{Create as ACreate, Exit as AnExit, Join as AJoin, Start as AStart};
+ghost use Rattle.pg_run_trace.specs.declared.turn.TurnKind.TheVariants.{Create as ACreate, Join as AJoin};
 ghost use Rattle.pg_run_trace.specs.declared.step.StepKind.TheVariants as kinds;
 ghost use Rattle.pg_slice_rules.specs.Closed.{AreWithin};
 ghost use Rattle.pg_slice_rules.specs.Known.{Reference, SymbolicState, Taken};
@@ -28,11 +28,11 @@ ghost use Rattle.pg_slice_back.specs.Steps.{IsCallOf, IsLiveStep};
 ghost use Rattle.pg_slice_walk.specs.declared.words.AskedWord.{AskedWord as AnAskedWord};
 ghost use Rattle.pg_slice_walk.specs.Words.{AreWordsMet, AsksArgument, IsWordMet, WritesAsked};
 
-use pg_ir::{Instr, Op, Program, ThreadNo, Value};
+use pg_ir::{Op, Program, ThreadNo, Value};
 use pg_run_trace::{Access, Event, Step, StepKind, TurnKind, Write};
 use pg_slice_back::pg_slice_decisions::DecisionSet;
-use pg_slice_back::pg_slice_replay::ReferenceRun;
-use pg_slice_back::{Counts, back_live, call_of, put_argument, put_optional};
+use pg_slice_back::pg_slice_passes::pg_slice_checks::is_start;
+use pg_slice_back::{StepAt, back_live, call_of, is_exit, put_argument, put_optional};
 use pg_slice_demands::{Call, Demanded};
 use std::alloc::{AllocError, Global};
 
@@ -176,27 +176,6 @@ fn is_join(kind: TurnKind) -> bool
     }
 }
 
-/// Whether an event is a start.
-fn is_start(kind: TurnKind) -> bool
-    ensures { result ≡ true → kind ≡ AStart }
-{
-    match kind {
-        TurnKind::Start => true,
-        _ => false,
-    }
-}
-
-/// Whether an event ends its thread.
-fn is_exit(kind: TurnKind) -> bool
-    ensures yes { result ≡ true → kind ≡ AnExit }
-    ensures no { result ≡ false → kind ≡ AnExit → ⊥ }
-{
-    match kind {
-        TurnKind::Exit => true,
-        _ => false,
-    }
-}
-
 /// Whether an event makes a thread.
 fn is_create(kind: TurnKind) -> bool
     ensures yes { result ≡ true → kind ≡ ACreate }
@@ -221,46 +200,37 @@ fn event_in(step: &Step) -> Option<Event>
 
 /// The word of a thread that has to be known before an event, for what has to be known behind it, if there is one. Of a parameter that a
 /// start gives nothing is asked any more.
-fn asked_by(
-    demanded: &mut Demanded,
-    program: &Program,
-    reference: &ReferenceRun,
-    at: Call,
-    count: usize,
-    event: &Event,
-    number: usize,
-) -> Option<AskedWord>
+fn asked_by(demanded: &mut Demanded, at: Call, s: &StepAt, event: &Event) -> Option<AskedWord>
     ensures less { IsLess demanded.old demanded.new }
     ensures asked { IfSome result (λ u. (R : Reference) (d : Taken) (x : AnInstr) (step : AStep) (counts : ACounts) (m : Moment)
-        → IsLiveStep R d program.now reference.now x step counts number m → IsCallOf m at
-        → step.kind ≡ kinds.Event event.now → counts.present ≡ count → AreMet (known_at R d (suc number)) demanded.old → IsWordMet (known_at R d number) u) }
+        → IsLiveStep R d s.now.program.now s.now.reference.now x step counts s.now.number m → IsCallOf m at
+        → step.kind ≡ kinds.Event event.now → counts.present ≡ s.now.counts.present → AreMet (known_at R d (suc s.now.number)) demanded.old
+        → IsWordMet (known_at R d s.now.number) u) }
 {
     if is_join(event.kind) {
         return joined(demanded, event);
     }
     if is_start(event.kind) {
-        return started(demanded, program, reference.function(number), at, count);
+        return started(
+            demanded,
+            s.program,
+            s.reference.function(s.number),
+            at,
+            s.counts.present,
+        );
     }
     None
 }
 
 /// The word of a thread that has to be known before a step, for what has to be known behind it, if there is one.
-fn asked_word(
-    demanded: &mut Demanded,
-    program: &Program,
-    reference: &ReferenceRun,
-    at: Call,
-    count: usize,
-    step: &Step,
-    number: usize,
-) -> Option<AskedWord>
+fn asked_word(demanded: &mut Demanded, at: Call, s: &StepAt) -> Option<AskedWord>
     ensures less { IsLess demanded.old demanded.new }
     ensures asked { IfSome result (λ u. (R : Reference) (d : Taken) (x : AnInstr) (counts : ACounts) (m : Moment)
-        → IsLiveStep R d program.now reference.now x step.now counts number m → IsCallOf m at
-        → counts.present ≡ count → AreMet (known_at R d (suc number)) demanded.old → IsWordMet (known_at R d number) u) }
+        → IsLiveStep R d s.now.program.now s.now.reference.now x s.now.step.now counts s.now.number m → IsCallOf m at
+        → counts.present ≡ s.now.counts.present → AreMet (known_at R d (suc s.now.number)) demanded.old → IsWordMet (known_at R d s.now.number) u) }
 {
-    match event_in(step) {
-        Some(e) => asked_by(demanded, program, reference, at, count, &e, number),
+    match event_in(s.step) {
+        Some(e) => asked_by(demanded, at, s, &e),
         None => None,
     }
 }
@@ -409,38 +379,24 @@ pub(crate) fn back_one(
     demanded: &mut Demanded,
     words: &mut Vec<Option<bool>>,
     decisions: &mut DecisionSet,
-    program: &Program,
-    instr: &Instr,
-    step: &Step,
-    reference: &ReferenceRun,
-    counts: Counts,
-    number: usize,
+    s: &StepAt,
 ) -> Result<(), AllocError>
-    requires number { number < step_count reference.now }
-    requires edges { EdgesStand program.now reference.now }
-    requires size { (k : ℕ) × AreOf k decisions.old × (number < k) }
+    requires number { s.now.number < step_count s.now.reference.now }
+    requires edges { EdgesStand s.now.program.now s.now.reference.now }
+    requires size { (k : ℕ) × AreOf k decisions.old × (s.now.number < k) }
     ensures size { (k : ℕ) → AreOf k decisions.old → AreOf k decisions.new }
     ensures kept { AreWithin (taken_by decisions.old) (taken_by decisions.new) }
     ensures less { left_by decisions.new ≤ left_by decisions.old }
-    ensures back { OnOk result ((R : Reference) (e : Taken) (m : Moment) → IsLiveStep R e program.now reference.now instr.now step.now counts number m
+    ensures back { OnOk result ((R : Reference) (e : Taken) (m : Moment)
+        → IsLiveStep R e s.now.program.now s.now.reference.now s.now.instr.now s.now.step.now s.now.counts s.now.number m
         → AreWithin (taken_by decisions.old) e
-        → AreWordsMet (known_at R e (suc number)) words.old.items → AreMet (known_at R e (suc number)) demanded.old
-        → AreMet (known_at R e number) demanded.new × AreWordsMet (known_at R e number) words.new.items × AreWithin (taken_by decisions.new) e) }
+        → AreWordsMet (known_at R e (suc s.now.number)) words.old.items → AreMet (known_at R e (suc s.now.number)) demanded.old
+        → AreMet (known_at R e s.now.number) demanded.new × AreWordsMet (known_at R e s.now.number) words.new.items × AreWithin (taken_by decisions.new) e) }
 {
-    let at = call_of(reference, step, number);
-    let asked = asked_word(
-        demanded,
-        program,
-        reference,
-        at,
-        counts.present,
-        step,
-        number,
-    );
-    back_live(
-        alloc, demanded, decisions, program, instr, step, reference, counts, number,
-    )?;
-    leave_words(demanded, words, at, &instr.op, step, counts.threads)?;
+    let at = call_of(s.reference, s.step, s.number);
+    let asked = asked_word(demanded, at, s);
+    back_live(alloc, demanded, decisions, s)?;
+    leave_words(demanded, words, at, &s.instr.op, s.step, s.counts.threads)?;
     ask_word(words, asked);
     Ok(())
 }

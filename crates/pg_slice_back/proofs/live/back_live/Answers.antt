@@ -14,16 +14,16 @@ due_fits None n d h f = tt
 due_fits (Some z) n d h f = (f.0, f.1, subst (λ (i : ℕ). i < f.0) (sym h) f.2)
 
 pub take_due-requires : goal.take_due-requires
-take_due-requires c = due_fits c.in_ok-due.due c.args.number c.args.decisions.now c.in_ok-due.ensures.step c.requires.size
+take_due-requires c = due_fits c.in_ok-due.due c.args.s.now.number c.args.decisions.now c.in_ok-due.ensures.step c.requires.size
 
 pub returns-clause-back : goal.returns-clause-back
 returns-clause-back c = λ R e m st within met.
-    let n = c.args.number in
-    let p = c.args.program.now in
-    let r = c.args.reference.now in
-    let x = c.args.instr.now in
-    let step = c.args.step.now in
-    let counts = c.args.counts in
+    let n = c.args.s.now.number in
+    let p = c.args.s.now.program.now in
+    let r = c.args.s.now.reference.now in
+    let x = c.args.s.now.instr.now in
+    let step = c.args.s.now.step.now in
+    let counts = c.args.s.now.counts in
     let at = c.call_of-at.result in
     let call = call_is R e p r x step counts n m st at c.call_of-at.ensures.thread c.call_of-at.ensures.depth in
     let b = c.in_ok-due.ensures.back R e m st call met in

@@ -15,6 +15,6 @@ invariant-loop-i l =
     Grew l.initial.nodes l.nodes
     × IsSymbolicNode (length l.nodes) l.s
     × AreSymbolicNodes (length l.nodes) l.memory
-    × ((ns : NodeList) (cells : List ByteRange) (done : Asked) → Grew l.nodes ns → AreCells l.offsets l.pointers cells →
-    Adds ns (path_needs (symbolics_of l.p ns l.memory) (symbolic_by ns l.s) (drop l.i l.offsets) (drop l.i l.pointers) (drop l.i cells) l.last) l.asked done →
-    Adds ns (path_needs (symbolics_of l.p ns l.memory) (symbolic_by ns l.initial.s) l.offsets l.pointers cells l.last) l.initial.asked done)
+    × ((ns : NodeList) (cells : List ByteRange) (done : Asked) → Grew l.nodes ns → AreCells l.path.offsets.now l.path.pointers.now cells →
+    Adds ns (path_needs (symbolics_of l.p ns l.memory) (symbolic_by ns l.s) (drop l.i l.path.offsets.now) (drop l.i l.path.pointers.now) (drop l.i cells) l.path.last) l.asked done →
+    Adds ns (path_needs (symbolics_of l.p ns l.memory) (symbolic_by ns l.initial.s) l.path.offsets.now l.path.pointers.now cells l.path.last) l.initial.asked done)

@@ -23,24 +23,24 @@ returns-in_ok-s-clause-value c w at b =
     let old = c.args.nodes.now in
     let new = c.value.new.nodes in
     let p = c.args.p.now in
-    let a = c.args.a in
+    let a = c.args.at.access in
     let rs = registers_by old c.args.registers.now in
     let before = symbolics_of p old c.args.memory.now in
     on_ok_weaker c.store.result (λ f.
     number_stored p old new c.args.memory.now c.store.new.self c.place_of.result _ a.bytes c.held.result c.in_ok-s.s (symbolic_of p rs c.args.v) b c.value.ensures.grew c.requires.names
     (f p new) c.place_of.ensures.place (c.held.ensures.bytes new) c.in_ok-s.ensures.value
-    ∙ sym (ap (λ (k : Bool). bytes_stored p k c.args.n a rs (op.Store w c.args.v at) before b) c.if-known.true)) c.store.ensures.symbolic
+    ∙ sym (ap (λ (k : Bool). bytes_stored p k c.args.at.number a rs (op.Store w c.args.v at) before b) (sym c.is_passed_on.ensures ∙ c.if-is_passed_on.true))) c.store.ensures.symbolic
 
-pub returns-else-known-clause-is : goal.returns-else-known-clause-is
-returns-else-known-clause-is c = on_ok_weaker c.spoil.result (λ f. f (length c.args.nodes.now) c.requires.names) c.spoil.ensures.names
+pub returns-else-is_passed_on-clause-is : goal.returns-else-is_passed_on-clause-is
+returns-else-is_passed_on-clause-is c = on_ok_weaker c.spoil.result (λ f. f (length c.args.nodes.now) c.requires.names) c.spoil.ensures.names
 
-pub returns-else-known-clause-value : goal.returns-else-known-clause-value
-returns-else-known-clause-value c w at b =
+pub returns-else-is_passed_on-clause-value : goal.returns-else-is_passed_on-clause-value
+returns-else-is_passed_on-clause-value c w at b =
     let old = c.args.nodes.now in
     let p = c.args.p.now in
-    let a = c.args.a in
+    let a = c.args.at.access in
     let rs = registers_by old c.args.registers.now in
     on_ok_weaker c.spoil.result (λ f.
-    ap (λ (g : ℕ → _). g b) (bounds_spoiled p old c.args.memory.now c.spoil.new.self c.bounds-f.result.start c.bounds-f.result.bytes a.pointer (Exact c.args.n)
+    ap (λ (g : ℕ → _). g b) (bounds_spoiled p old c.args.memory.now c.spoil.new.self c.bounds-f.result.start c.bounds-f.result.bytes a.pointer (Exact c.args.at.number)
     (f p old) c.bounds-f.ensures.start c.bounds-f.ensures.bytes)
-    ∙ sym (ap (λ (k : Bool). bytes_stored p k c.args.n a rs (op.Store w c.args.v at) (symbolics_of p old c.args.memory.now) b) c.if-known.false)) c.spoil.ensures.symbolic
+    ∙ sym (ap (λ (k : Bool). bytes_stored p k c.args.at.number a rs (op.Store w c.args.v at) (symbolics_of p old c.args.memory.now) b) (sym c.is_passed_on.ensures ∙ c.if-is_passed_on.false))) c.spoil.ensures.symbolic

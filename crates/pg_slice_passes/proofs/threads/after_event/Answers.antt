@@ -22,8 +22,8 @@ returns-then-t-len-clause-value c m pinned opens ks f k =
     let new = c.after_event.new.nodes in
     let calls = c.args.threads.now.items in
     let t = c.args.t in
-    let e = c.args.e in
-    let change = along.after_event c.args.p.now m e e.kind (symbolic_by old c.args.argument) c.args.x.now in
+    let e = c.args.at.event in
+    let change = along.after_event c.args.s.now.p.now m e e.kind (symbolic_by old c.args.at.argument) c.args.s.now.x.now in
     let lt : t < length calls = omega (arith, c.if-t-len.true, c.len.ensures) in
     let found : c.index_mut-thread.result.now ≡ slice_index_or calls t [] = c.index_mut-thread.ensures.value ∙ at_any calls t _ [] lt in
     on_ok_weaker c.after_event.result (λ q.

@@ -20,9 +20,9 @@ returns-then-t-len-clause-value c m region pinned opens ks at k =
     let new = c.after_op.new.nodes in
     let calls = c.args.threads.now.items in
     let t = c.args.t in
-    let x = c.args.x.now in
+    let x = c.args.s.now.x.now in
     let s = c.args.step in
-    let change = along.after_op c.args.p.now s.pinned s.number m region s.word x x.op in
+    let change = along.after_op c.args.s.now.p.now s.pinned s.number m region s.word x x.op in
     let lt : t < length calls = omega (arith, c.if-t-len.true, c.len.ensures) in
     let found : c.index_mut-thread.result.now ≡ slice_index_or calls t [] = c.index_mut-thread.ensures.value ∙ at_any calls t _ [] lt in
     on_ok_weaker c.after_op.result (λ q.

@@ -7,8 +7,8 @@ use Rattle.pg_slice_replay.proofs.replay.replay.Given as goal
 
 abbrev pub invariant-loop-i : goal.invariant-loop-i
 invariant-loop-i l = record {
-  of : IsMachine l.p l.machine.state;
-  targets : AreTargets l.p l.targets.kept.items l.machine.state;
-  replayed : Replayed (λ s x. landmark_with l.p (freed_in l.p l.regions.blocks.items l.regions.regions.items s x) s x) l.p l.regions.regions.items l.initial.machine l.t.steps l.i l.machine
+  of : IsMachine l.run.program.now l.machine.state;
+  targets : AreTargets l.run.program.now l.targets.kept.items l.machine.state;
+  replayed : Replayed (λ s x. landmark_with l.run.program.now (freed_in l.run.program.now l.run.regions.now.blocks.items l.run.regions.now.regions.items s x) s x) l.run.program.now l.run.regions.now.regions.items l.initial.machine l.run.trace.now.steps l.i l.machine
       l.rows.items l.ats.items;
 }

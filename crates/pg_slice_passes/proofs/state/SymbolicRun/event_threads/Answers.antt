@@ -29,8 +29,8 @@ returns-clause-value c m pinned k f h =
     let new = c.with_created.new.nodes in
     let s = c.args.self.now in
     let p = c.args.s.now.p.now in
-    let e = c.args.e in
-    let ks = on_thread (after_event p m e e.kind (symbolic_by old c.args.argument) c.args.s.now.x.now) c.args.t k.threads in
+    let e = c.args.at.event in
+    let ks = on_thread (after_event p m e e.kind (symbolic_by old c.args.at.argument) c.args.s.now.x.now) c.args.t k.threads in
     on_ok_weaker c.with_created.result (λ t.
     threads_known p old new pinned s _ k (threads_after p e e.kind ks) (returns-clause-grew c) c.requires.symbolic_nodes h refl refl t)
     (c.with_created.ensures.value pinned ks (c.in_ok-after_event.ensures.value m pinned s.extents.items k.threads f (threads_in p old pinned s k h)))

@@ -22,33 +22,33 @@ use Rattle.pg_slice_passes.proofs.state.SymbolicRun.live_access.Goals as goal
 
 -- ---- a load
 
-pub returns-in_ok-s-in-Load-clause-is : goal.returns-in_ok-s-in-Load-clause-is
-returns-in_ok-s-in-Load-clause-is c =
+pub returns-in_ok-loaded-in-Load-clause-is : goal.returns-in_ok-loaded-in-Load-clause-is
+returns-in_ok-loaded-in-Load-clause-is c =
     let old = c.args.nodes.now in
     let new = c.load.new.nodes in
     let s = c.args.self.now in
     let g = c.load.ensures.grew in
     record {
-      threads = c.after_access.ensures.is (length new) (threads_stay old new s.threads.items g c.requires.symbolic_nodes.threads) c.in_ok-s-in-Load.ensures.is;
+      threads = c.after_access.ensures.is (length new) (threads_stay old new s.threads.items g c.requires.symbolic_nodes.threads) c.in_ok-loaded-in-Load.ensures.is;
       bytes = names_more (length old) (length new) s.memory (grew_length old new g) c.requires.symbolic_nodes.bytes;
       words = symbolic_nodes_kept old new s.words.items g c.requires.symbolic_nodes.words;
     }
 
-pub returns-in_ok-s-in-Load-clause-value : goal.returns-in_ok-s-in-Load-clause-value
-returns-in_ok-s-in-Load-clause-value c d m region k e t h =
+pub returns-in_ok-loaded-in-Load-clause-value : goal.returns-in_ok-loaded-in-Load-clause-value
+returns-in_ok-loaded-in-Load-clause-value c d m region k e t h =
     let old = c.args.nodes.now in
     let new = c.load.new.nodes in
     let s = c.args.self.now in
-    let p = c.args.p.now in
-    let x = c.args.x.now in
-    let a = c.args.a in
-    let n = c.args.n in
+    let p = c.args.s.now.p.now in
+    let x = c.args.s.now.x.now in
+    let a = c.args.at.access in
+    let n = c.args.at.number in
     let g = c.load.ensures.grew in
     let more = knows_more p old new d.pinned s k g c.requires.symbolic_nodes h in
-    let loaded : (w : Width) (from : Value) → x.op ≡ op.Load w from → symbolic_by new c.in_ok-s-in-Load.s ≡ load_of (d.exact n) n w a k.bytes = λ w from i.
+    let loaded : (w : Width) (from : Value) → x.op ≡ op.Load w from → symbolic_by new c.in_ok-loaded-in-Load.loaded ≡ load_of (d.exact n) n w a k.bytes = λ w from i.
     let q : c.in-Load.width ≡ w = cc in
-    c.in_ok-s-in-Load.ensures.value
-    ∙ ap (λ (v : Width). load_of c.args.exact n v a (symbolics_of p old s.memory)) q
+    c.in_ok-loaded-in-Load.ensures.value
+    ∙ ap (λ (v : Width). load_of c.args.at.exact n v a (symbolics_of p old s.memory)) q
     ∙ ap (λ (b : Bool). load_of b n w a (symbolics_of p old s.memory)) (sym e)
     ∙ ap (λ (f : ℕ → Symbolic). load_of (d.exact n) n w a f) (sym (bytes_in p old d.pinned s k h)) in
     let threads = c.after_access.ensures.value new p (d.exact n) n a k.bytes d.pinned s.extents.items k.threads loaded (threads_stay old new s.threads.items g c.requires.symbolic_nodes.threads)
@@ -84,16 +84,16 @@ returns-in-Store-clause-value c d m region k e t h =
     let old = c.args.nodes.now in
     let new = c.store.new.nodes in
     let s = c.args.self.now in
-    let p = c.args.p.now in
-    let x = c.args.x.now in
-    let a = c.args.a in
-    let n = c.args.n in
-    let known = c.is_passed_on.result in
+    let p = c.args.s.now.p.now in
+    let x = c.args.s.now.x.now in
+    let a = c.args.at.access in
+    let n = c.args.at.number in
+    let known = c.args.at.exact || a.event in
     let before = symbolics_of p old s.memory in
     let o = op.Store c.in-Store.width c.in-Store.value c.in-Store.at in
     let registers : c.thread_registers.result.now ≡ symbolic_nodes_in s (thread_in m) =
     c.thread_registers.ensures ∙ ap (λ (cs : List CallList). top_symbolic_nodes (slice_index_or cs c.args.t [])) c.as_slice.ensures.value ∙ ap (λ (u : ℕ). symbolic_nodes_in s u) (sym t) in
-    let same : known ≡ (d.exact n || a.event) = c.is_passed_on.ensures ∙ ap (λ (b : Bool). b || a.event) (sym e) in
+    let same : known ≡ (d.exact n || a.event) = ap (λ (b : Bool). b || a.event) (sym e) in
     on_ok_weaker c.store.result (λ f.
     store_known p old new s _ d n m region x a k c.in-Store.width c.in-Store.value c.in-Store.at c.in-Store.is c.store.ensures.grew c.requires.symbolic_nodes h refl refl refl
     (λ b.
