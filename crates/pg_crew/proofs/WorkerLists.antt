@@ -1,5 +1,5 @@
 -- Workers in a list, and the turns that they do.
-use Rattle.std.proofs.Common.{◌≡◌, ℕ, zero, suc, ◌+◌, ◌-◌, ◌^◌, ◌<◌, ◌≤◌, ◌⊎◌, inl, inr, List, [], ◌∷◌, length, Bool, true, false, Option, Some, None, refl, sym, ◌∙◌, ap, subst, arith}
+use Rattle.std.proofs.Common.{◌≡◌, ℕ, zero, suc, ◌+◌, ◌-◌, ◌^◌, ◌<◌, ◌≤◌, ◌⊎◌, inl, inr, List, [], ◌∷◌, length, Bool, true, false, refl, sym, ◌∙◌, ap, subst, arith}
 use Rattle.std.specs.Prelude.{◌==◌, min, slice_get, slice_index, slice_index_or, slice_set}
 use Rattle.std.proofs.lemmas.Bool.{cases_lt, eq-eqb, eqb-true}
 use Rattle.std.proofs.lemmas.List.{get_or-set_other, get_or-set_same, length-set}
@@ -8,7 +8,8 @@ use Rattle.atomic_table.specs.Seated.{TableId}
 use Rattle.pg_worker.proofs.of_pg_law_course.CoursePlaces.{get_length}
 use Rattle.pg_worker.specs.pg_seats.declared.run.Run.{Run}
 use Rattle.pg_worker.specs.declared.worker.Worker.{Worker}
-use Rattle.pg_worker.specs.Standing.{IsAt, WentOn}
+use Rattle.pg_worker.specs.Standing.{IsAt}
+use Rattle.pg_worker.proofs.Segments.{paused_later, went_more}
 use Rattle.pg_crew.specs.Workers.{AreWorkers, HasGone, HaveGone, counted, done_by, turns_between, turns_of_first, turns_since}
 
 -- ---- elements
@@ -53,6 +54,10 @@ are_again r table a b are count at thread = record {
 pub gone_again : (r : Run) (table : TableId) (a b : List Worker) → AreWorkers r table a → HaveGone r a b
     → ((t : ℕ) (d : Worker) → t < length a → IsAt r table 0 (slice_index_or b t d)) → AreWorkers r table b
 gone_again r table a b are gone at = are_again r table a b are gone.count at (λ t d lt. (gone.each t d lt).went.thread)
+
+-- behind one segment more
+pub gone_more : (r : Run) (a b c : Worker) → HasGone r a b → HasGone r b c → HasGone r a c
+gone_more r a b c h k = record { went = went_more a b c h.went k.went; why = k.why; paused = paused_later r k.why a b c h.went k.paused }
 
 -- ---- one after another
 

@@ -6,7 +6,9 @@
 pub mod laws;
 mod prepared;
 
-pub use pg_rounds::pg_crew::{AnyHook, ByLength, Crew, Hook, OneByOne, Together};
+pub use pg_rounds::pg_crew::{
+    AnyHook, AnyParkers, ByLength, Crew, Hook, OneByOne, Park, Parkers, Parking, Together,
+};
 pub use pg_rounds::pg_room::{NotPrepared, Room};
 pub use pg_rounds::{Ended, pg_ir, pg_num, pg_run, pg_run_trace};
 pub use prepared::{Prepared, prepare, prepare_in};
