@@ -1,0 +1,5 @@
+mod NextTurns
+mod DueEvents
+mod OpenSteps
+mod LockedSteps
+mod LockedEnds
