@@ -4,6 +4,7 @@ pub mod ModuleBytes
 pub mod GlobalBytes
 pub mod GuidedTexts
 pub mod LongTexts
+pub mod TurnsCounted
 pub mod ShelfFaults
 pub mod TextVerdicts
 pub mod CommandEnds

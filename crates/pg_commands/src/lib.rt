@@ -16,6 +16,7 @@ mod show;
 mod status;
 mod texts;
 mod trial;
+mod turns;
 mod verdicts;
 
 pub use pg_io::{ReadAllFault, read_all, write_all};

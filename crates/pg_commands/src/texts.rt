@@ -1,34 +1,29 @@
 //! The texts that are written.
-ghost use Rattle.std.specs.Prelude.{◌≡◌, ◌≤◌, IfOk, length, string_bytes};
+ghost use Rattle.std.specs.Prelude.{◌≡◌, ◌≤◌, IfOk, string_bytes};
 ghost use Rattle.pg_num.specs.declared.limits.TheConstants.{QUANTUM_LIMIT};
-ghost use Rattle.pg_session_book.specs.pg_run_trace.Races.{schedule_of};
 ghost use Rattle.pg_session_book.specs.pg_law_runs.Cuts.{CanRun};
 ghost use Rattle.pg_commands.specs.EndLines.{end_line};
 ghost use Rattle.pg_commands.specs.Texts.{once_text};
 
 use crate::laws::the_guided_run_of_once_exits;
+use crate::turns::turn_count;
 use pg_ir::Program;
-use pg_schedule::{hybrid, races};
 use pg_session_book::pg_run::{Outcome, Recorded, Refusal, rotate};
 use pg_session_book::pg_run_trace::Trace;
 use std::alloc::{AllocError, Global};
 
-/// How many turns the schedule of a trace has.
-fn turn_count(alloc: Global, trace: &Trace) -> Result<usize, AllocError>
-    ensures { IfOk result (λ n. n ≡ length (schedule_of trace.now.steps).turns) }
-{
-    let races = races(alloc, trace)?;
-    let schedule = hybrid(alloc, trace, races.as_slice())?;
-    Ok(schedule.turns.as_slice().len())
-}
-
-/// The line that says how a run with this trace ended.
-fn end_line(alloc: Global, trace: &Trace, end: Outcome) -> Result<String, AllocError>
+/// The line that says how a run of a program with this trace ended.
+fn end_line(
+    alloc: Global,
+    program: &Program,
+    trace: &Trace,
+    end: Outcome,
+) -> Result<String, AllocError>
     ensures { IfOk result (λ line. string_bytes line ≡ end_line trace.now.steps end) }
 {
     match end {
         Outcome::Exit(value) => {
-            let turns = turn_count(alloc, trace)?;
+            let turns = turn_count(alloc, program, trace)?;
             format!(in alloc; "exit {value} after {turns} turns\n")
         }
         Outcome::Refused(Refusal::Trap(name, id)) => {
@@ -54,7 +49,7 @@ pub(crate) fn once_text(
 {
     the_guided_run_of_once_exits();
     let Recorded { trace, output, end } = rotate(alloc, program, input, quantum)?;
-    let line = end_line(alloc, &trace, end)?;
+    let line = end_line(alloc, program, &trace, end)?;
     let mut text = output;
     text.extend_from_slice(line.as_bytes())?;
     Ok(text)
