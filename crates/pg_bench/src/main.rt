@@ -4,10 +4,12 @@
 //!     steps [rotation N | guided N]         how many steps the machine takes
 //!     races STEPS THREADS                   the races of a made trace
 //!     regions [chain | functions | nested | exits]     the regions of the branches of a made program
+//!     compare NUMBER.. [-- NUMBER..].. < PROGRAM.ll     the two slices of a recording of the first numbers, on the others
 //!     recordings [shares N | slice LENGTH [SHAPE] | run LENGTH [SHAPE]]     what recording a line takes, and using its entry
 // How goals are searched for: see docs/CONTRIBUTING.md.
 #![tactic(auto)]
 
+mod compared;
 mod races;
 mod recordings;
 mod regions;
@@ -35,11 +37,12 @@ fn named(rt: &HostRuntime, word: &str) -> Result<()> {
     let words = words_behind(rt, 2)?;
     let others = words.as_slice();
     match word {
+        "compare" => compared::run(rt, others),
         "steps" => steps::run(rt, others),
         "races" => races::run(rt, others),
         "regions" => regions::run(rt, others),
         "recordings" => recordings::run(rt, others),
-        _ => Err(anyhow!("the first word is steps, races, regions or recordings")),
+        _ => Err(anyhow!("the first word is compare, steps, races, regions or recordings")),
     }
 }
 

@@ -11,6 +11,7 @@
 //! the slice, so that the memory of the slice can be told: `/usr/bin/time -v` prints the greatest resident set of either, and
 //! their difference, divided by the steps, is what the slice adds a step to the most that was taken before it.
 mod command;
+mod comparing;
 mod counts;
 mod measuring;
 mod recording;
@@ -19,6 +20,7 @@ mod shapes;
 mod shares;
 
 use crate::recordings::command::{Command, parse};
+pub(crate) use crate::recordings::comparing::Agreement;
 use crate::recordings::counts::Counts;
 use crate::recordings::measuring::{Extent, Job, Report, measured};
 use crate::recordings::samples::{Measured, SAMPLES};
@@ -97,6 +99,7 @@ fn measure(
         alloc: rt.alloc(),
         p,
         input,
+        others: &[],
         extent: Extent::All,
     };
     let report = fastest(rt, &job, runs.unwrap_or(1))?;
@@ -146,6 +149,7 @@ fn measure_long(rt: &HostRuntime, extent: Extent, length: u32, shape: Shape) -> 
         alloc: rt.alloc(),
         p: &p,
         input: &[rounds_of(shape, length) as i64],
+        others: &[],
         extent,
     };
     let report = measured(rt, &job)?;
@@ -164,6 +168,24 @@ fn measure_shapes(
     }
     measure_long(rt, extent, length, Shape::Branches)?;
     measure_long(rt, extent, length, Shape::Array)
+}
+
+/// How the two slices of a program's run on an input compare, on this input and on others.
+pub(crate) fn compared_as(
+    rt: &HostRuntime,
+    p: &Program,
+    input: &[i64],
+    others: &[Vec<i64>],
+) -> Result<Agreement> {
+    let job = Job {
+        alloc: rt.alloc(),
+        p,
+        input,
+        others,
+        extent: Extent::Compare,
+    };
+    let report = measured(rt, &job)?;
+    Ok(report.agreement)
 }
 
 /// Measures what these words ask for.

@@ -15,6 +15,8 @@ mod long;
 #[cfg(test)]
 mod meeting;
 #[cfg(test)]
+mod parking;
+#[cfg(test)]
 mod session;
 #[cfg(test)]
 mod streams;

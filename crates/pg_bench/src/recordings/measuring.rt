@@ -8,6 +8,7 @@ ghost use Rattle.pg_slice_replay.specs.Kept.{step_count};
 ghost use Rattle.pg_slice_passes.specs.Given.{AreGiven, AreSteps, EdgesStand};
 ghost use Rattle.pg_law_reference.specs.Sliceable.{CanBeSliced};
 
+use crate::recordings::comparing::{Agreement, compare, races_agree};
 use crate::recordings::counts::Counts;
 use crate::recordings::recording::{are_instructions, rotate, scheduled};
 use crate::recordings::shares::Moments;
@@ -35,6 +36,8 @@ pub(crate) enum Extent {
     Replay,
     /// Up to the slice.
     Slice,
+    /// And the slice by passes, and how the two compare.
+    Compare,
     /// And the slice by passes, and the use of the entry.
     All,
 }
@@ -44,14 +47,16 @@ pub(crate) enum Extent {
 pub(crate) struct Report {
     pub(crate) counts: Counts,
     pub(crate) moments: Moments,
+    pub(crate) agreement: Agreement,
 }
 
-/// A program on an input, and how far it is measured.
+/// A program on an input, and how far it is measured; other inputs on which its slices are compared.
 #[derive(Clone, Copy)]
 pub(crate) struct Job<'a> {
     pub(crate) alloc: Global,
     pub(crate) p: &'a Program,
     pub(crate) input: &'a [i64],
+    pub(crate) others: &'a [Vec<i64>],
     pub(crate) extent: Extent,
 }
 
@@ -65,6 +70,7 @@ pub(crate) fn measured(rt: &HostRuntime, job: &Job) -> Result<Report> {
     let mut report = Report {
         counts: Counts::none(),
         moments: Moments::at(begun),
+        agreement: Agreement::none(),
     };
     recorded(rt, job, &mut report)?;
     Ok(report)
@@ -80,6 +86,9 @@ fn rotated(rt: &HostRuntime, job: &Job, report: &mut Report, trace: &mut Trace) 
 {
     rotate(job.alloc, job.p, job.input, trace)?;
     report.moments.rotated = Instant::now(rt)?;
+    if job.extent == Extent::Compare {
+        report.agreement.races = races_agree(job.alloc, trace)?;
+    }
     let schedule = scheduled(job.alloc, trace)?;
     report.moments.scheduled = Instant::now(rt)?;
     followed(rt, job, report, trace, &schedule)
@@ -185,8 +194,19 @@ fn sliced(
         return Ok(());
     }
     report.moments.counted = Instant::now(rt)?;
-    let _by_passes = slice_by_passes(job.alloc, run)?;
+    let by_passes = slice_by_passes(job.alloc, run)?;
     report.moments.passed = Instant::now(rt)?;
+    if job.extent == Extent::Compare {
+        compare(
+            job.alloc,
+            &slice,
+            &by_passes,
+            job.input,
+            job.others,
+            &mut report.agreement,
+        )?;
+        return Ok(());
+    }
     used(rt, job, report, schedule, &slice)
 }
 
