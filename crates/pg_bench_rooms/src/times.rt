@@ -72,7 +72,6 @@ pub(crate) struct Times {
     pub(crate) ready: Part,
     pub(crate) one_by_one: Part,
     pub(crate) together: Part,
-    pub(crate) parking: Part,
     pub(crate) guided: Part,
 }
 
@@ -83,7 +82,6 @@ impl Times {
             ready: Part::none(),
             one_by_one: Part::none(),
             together: Part::none(),
-            parking: Part::none(),
             guided: Part::none(),
         }
     }
