@@ -12,7 +12,7 @@ use std::test::Fail;
 use std::thread::Threads;
 
 /// Main stores 100 in a word in which its thread stores the first number, and prints the word once it joined the thread.
-pub(crate) const RACING_STORES: &[u8] = b"declare i64 @pg_in(i64)\n\
+const RACING_STORES: &[u8] = b"declare i64 @pg_in(i64)\n\
 declare void @pg_out(i64)\n\
 declare i32 @pthread_create(ptr, ptr, ptr, ptr)\n\
 declare i32 @pthread_join(i64, ptr)\n\

@@ -15,8 +15,6 @@ mod long;
 #[cfg(test)]
 mod meeting;
 #[cfg(test)]
-mod parking;
-#[cfg(test)]
 mod session;
 #[cfg(test)]
 mod streams;

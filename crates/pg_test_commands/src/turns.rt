@@ -1,6 +1,6 @@
 //! What the crew that runs workers counts, through the top call.
 
-use pg_commands::pg_go::{AnyParkers, ByLength, Crew, OneByOne, Park, Parkers, Parking, Together};
+use pg_commands::pg_go::{ByLength, Crew, OneByOne, Together};
 use pg_commands::{Status, peregrine};
 use pg_free::Free;
 use pg_io::{MemoryShelf, MemorySink, MemorySource};
@@ -85,12 +85,5 @@ fn together(rt: HostRuntime) -> Result<(), Fail> {
 #[test]
 fn by_length(rt: HostRuntime) -> Result<(), Fail> {
     let mut crew = ByLength::new(Vec::new(rt.alloc()));
-    expect_turns(&rt, rt.alloc(), &mut crew)
-}
-
-#[test]
-fn parking(rt: HostRuntime) -> Result<(), Fail> {
-    let parkers: Box<dyn Park + Sync + Drop> = Box::new(rt.alloc(), Parkers::new(rt.alloc(), rt)?)?;
-    let mut crew = Parking::new(Vec::new(rt.alloc()), AnyParkers::new(parkers));
     expect_turns(&rt, rt.alloc(), &mut crew)
 }
