@@ -17,7 +17,7 @@ use Rattle.pg_run_memory.specs.Bytes.{number_of}
 use Rattle.pg_run_memory.specs.Memory.{byte_at, read}
 use Rattle.pg_region_paths.specs.declared.path.Root.{Root}
 use Rattle.pg_region_paths.specs.declared.path.Root.TheVariants as root
-use Rattle.pg_region_paths.specs.Followed.{root_value}
+use Rattle.pg_region_paths.specs.FollowedPaths.{root_value}
 use Rattle.pg_region_paths.specs.Paths.{offsets_of}
 use Rattle.pg_region_accesses.specs.declared.rooted.Rooted.{Rooted}
 use Rattle.pg_region_accesses.specs.Accesses.{RootedList}

@@ -15,7 +15,7 @@ use Rattle.pg_run.proofs.ActionPlaces.{place_is}
 use Rattle.pg_region_paths.specs.declared.path.Loads.{Loads}
 use Rattle.pg_region_paths.specs.declared.path.Loads.TheVariants.{Never, Once, Twice, Thrice, FourTimes}
 use Rattle.pg_region_paths.specs.declared.path.RootPath.{RootPath}
-use Rattle.pg_region_paths.specs.Followed.{Followed, behind, cell_at, followed, followed_from, root_value}
+use Rattle.pg_region_paths.specs.FollowedPaths.{PathPointers, behind, cell_at, followed, followed_from, root_value}
 use Rattle.pg_region_paths.specs.Paths.{offsets_of}
 use Rattle.pg_region_accesses.specs.declared.rooted.Rooted.{Rooted}
 use Rattle.pg_region_accesses.specs.Accesses.{RootedList}
@@ -63,17 +63,17 @@ never_loads (Twice a b) e = absurd cc
 never_loads (Thrice a b c) e = absurd cc
 never_loads (FourTimes a b c d) e = absurd cc
 
-no_cells : (memory : ByteRange → ℕ) (w : ℕ) (g : Followed) → followed_from memory w [] ≡ Some g → g.cells ≡ []
-no_cells memory w g e = let i : record { pointers = []; cells = []; last = w } ≡ g = cc in sym (ap (λ (z : Followed). z.cells) i)
+no_cells : (memory : ByteRange → ℕ) (w : ℕ) (g : PathPointers) → followed_from memory w [] ≡ Some g → g.cells ≡ []
+no_cells memory w g e = let i : record { pointers = []; cells = []; last = w } ≡ g = cc in sym (ap (λ (z : PathPointers). z.cells) i)
 
-record LastLoad (memory : ByteRange → ℕ) (w : ℕ) (ks : List ℕ) (k : ℕ) (g : Followed) : Type 0 where
-  front : Followed
+record LastLoad (memory : ByteRange → ℕ) (w : ℕ) (ks : List ℕ) (k : ℕ) (g : PathPointers) : Type 0 where
+  front : PathPointers
   is : followed_from memory w ks ≡ Some front
   cell : ByteRange
   at : cell_at front.last k ≡ Some cell
   cells : g.cells ≡ front.cells ++ cell ∷ []
 
-last_load_of : (memory : ByteRange → ℕ) (ks : List ℕ) (k w : ℕ) (g : Followed) → followed_from memory w (ks ++ k ∷ []) ≡ Some g → LastLoad memory w ks k g
+last_load_of : (memory : ByteRange → ℕ) (ks : List ℕ) (k w : ℕ) (g : PathPointers) → followed_from memory w (ks ++ k ∷ []) ≡ Some g → LastLoad memory w ks k g
 last_load_of memory [] k w g e =
     let l = loads_of memory w k [] g e in
     record {
@@ -81,7 +81,7 @@ last_load_of memory [] k w g e =
       is = refl;
       cell = l.cell;
       at = l.at;
-      cells = sym (ap (λ (z : Followed). z.cells) l.whole) ∙ ap (λ (cs : List ByteRange). l.cell ∷ cs) (no_cells memory (memory l.cell) l.more l.is);
+      cells = sym (ap (λ (z : PathPointers). z.cells) l.whole) ∙ ap (λ (cs : List ByteRange). l.cell ∷ cs) (no_cells memory (memory l.cell) l.more l.is);
     }
 last_load_of memory (j ∷ ks) k w g e =
     let l = loads_of memory w j (ks ++ k ∷ []) g e in
@@ -91,7 +91,7 @@ last_load_of memory (j ∷ ks) k w g e =
       is = ap (λ (o : Option ByteRange). option_and_then (λ (d : ByteRange). behind w d (followed_from memory (memory d) ks)) o) l.at ∙ ap (behind w l.cell) m.is;
       cell = m.cell;
       at = m.at;
-      cells = sym (ap (λ (z : Followed). z.cells) l.whole) ∙ ap (λ (cs : List ByteRange). l.cell ∷ cs) m.cells;
+      cells = sym (ap (λ (z : PathPointers). z.cells) l.whole) ∙ ap (λ (cs : List ByteRange). l.cell ∷ cs) m.cells;
     }
 
 -- ---- each cell that a path loads is read
@@ -101,13 +101,13 @@ module _ (p : NumberedProgram) (registers : ℕ → Option ℕ) (memory : ByteRa
     access : Rooted
     among : Contains xs access
     reads : access.writes ≡ false
-    at : Followed
+    at : PathPointers
     is : followed p registers memory access.path ≡ Some at
     offset : ℕ
     cell : cell_at at.last offset ≡ Some c
 
-  one_cell : (a : Rooted) → Contains xs a → (g : Followed) → followed p registers memory a.path ≡ Some g → (c : ByteRange) → Contains g.cells c →
-      ((b : Rooted) → Contains xs b → length (offsets_of b.path.loads) + 1 ≡ length (offsets_of a.path.loads) → (h : Followed) → followed p registers memory b.path ≡ Some h
+  one_cell : (a : Rooted) → Contains xs a → (g : PathPointers) → followed p registers memory a.path ≡ Some g → (c : ByteRange) → Contains g.cells c →
+      ((b : Rooted) → Contains xs b → length (offsets_of b.path.loads) + 1 ≡ length (offsets_of a.path.loads) → (h : PathPointers) → followed p registers memory b.path ≡ Some h
       → Contains h.cells c → ReadAt c) → ReadAt c
   one_cell a i g e c d more = by (before_last a.path.loads) refl
     where
@@ -138,7 +138,7 @@ module _ (p : NumberedProgram) (registers : ℕ → Option ℕ) (memory : ByteRa
           pick (inl z) = more b.0 b.1 shorter m.front front z
           pick (inr z) = record { access = b.0; among = b.1; reads = b.2; at = m.front; is = front; offset = k.0; cell = m.at ∙ ap (λ (q : ByteRange). Some q) (only_here m.cell c z) }
 
-  read_cells : (n : ℕ) (a : Rooted) → Contains xs a → length (offsets_of a.path.loads) ≤ n → (g : Followed) → followed p registers memory a.path ≡ Some g → (c : ByteRange)
+  read_cells : (n : ℕ) (a : Rooted) → Contains xs a → length (offsets_of a.path.loads) ≤ n → (g : PathPointers) → followed p registers memory a.path ≡ Some g → (c : ByteRange)
       → Contains g.cells c → ReadAt c
   read_cells zero a i le g e c d = one_cell a i g e c d (λ b j k h f z. absurd (omega (arith, k, le)))
   read_cells (suc n) a i le g e c d = one_cell a i g e c d (λ b j k h f z. read_cells n b j (omega (arith, k, le)) h f c z)
@@ -190,7 +190,7 @@ module _ (r : ReferenceRun) (d : Taken) (program : IsProgram r.program) (sums : 
       reads_there b at.1
       (some_map (λ (f : Footprint). is_read_in f b) (λ (x : FreeAccess). record { bytes = bounds_of x.at.last; writes = x.writes }) q.accesses
       (record { writes = z.access.writes; path = z.access.path; at = w.0 }) w.2
-      (and_from (not z.access.writes) (is_in (bounds_of w.0.last) b) (ap not z.reads) (ap (λ (y : Followed). is_in (bounds_of y.last) b) same ∙ at.0)))
+      (and_from (not z.access.writes) (is_in (bounds_of w.0.last) b) (ap not z.reads) (ap (λ (y : PathPointers). is_in (bounds_of y.last) b) same ∙ at.0)))
 
 pub paths_are_read : (r : ReferenceRun) (d : Taken) (o : IsOrderedRun r) (sums : ℕ → Option RootedList) (are : AreRegions r.program (λ i. is_gated r.gated i) sums r.regions)
     (summaries : AreSummaries r.program (λ i. is_gated r.gated i) sums) → PathsAreRead r d

@@ -10,7 +10,7 @@ use Rattle.pg_num.proofs.Moves.{length-moved_by, start-moved_by}
 use Rattle.pg_run_memory.specs.Bytes.{number_of}
 use Rattle.pg_precondition.specs.declared.check.Test.TheVariants as test
 use Rattle.pg_precondition.specs.Values.{is_met, with_one}
-use Rattle.pg_region_paths.specs.Followed.{Followed, behind, cell_at, cell_in, followed_from}
+use Rattle.pg_region_paths.specs.FollowedPaths.{PathPointers, behind, cell_at, cell_in, followed_from}
 use Rattle.pg_region_paths.proofs.Elements.{cases, here, there, none_in}
 use Rattle.pg_run_trace.specs.Races.{is_in}
 use Rattle.pg_run.proofs.ActionPlaces.{place_is}
@@ -50,17 +50,17 @@ cell_bytes : (w k : ℕ) (c : ByteRange) → cell_at w k ≡ Some c → c.bytes 
 cell_bytes w k c h = sym (ap (λ (z : ByteRange). z.bytes) (place_is (moved_by w (pos k)) 8 c (cell_of (place_of (moved_by w (pos k)) 8) c h)))
 
 -- the parts of a path that loads
-pub record Loads (recorded : ByteRange → ℕ) (w0 k : ℕ) (ks : List ℕ) (g : Followed) : Type 0 where
+pub record Loads (recorded : ByteRange → ℕ) (w0 k : ℕ) (ks : List ℕ) (g : PathPointers) : Type 0 where
   pub cell : ByteRange
-  pub more : Followed
+  pub more : PathPointers
   pub at : cell_at w0 k ≡ Some cell
   pub is : followed_from recorded (recorded cell) ks ≡ Some more
   pub whole : record { pointers = w0 ∷ more.pointers; cells = cell ∷ more.cells; last = more.last } ≡ g
 
-pub loads_of : (recorded : ByteRange → ℕ) (w0 k : ℕ) (ks : List ℕ) (g : Followed) → followed_from recorded w0 (k ∷ ks) ≡ Some g → Loads recorded w0 k ks g
+pub loads_of : (recorded : ByteRange → ℕ) (w0 k : ℕ) (ks : List ℕ) (g : PathPointers) → followed_from recorded w0 (k ∷ ks) ≡ Some g → Loads recorded w0 k ks g
 loads_of recorded w0 k ks g e = by_cell (cell_at w0 k) refl e
   where
-    by_more : (c : ByteRange) → cell_at w0 k ≡ Some c → (o : Option Followed) → followed_from recorded (recorded c) ks ≡ o → behind w0 c o ≡ Some g → Loads recorded w0 k ks g
+    by_more : (c : ByteRange) → cell_at w0 k ≡ Some c → (o : Option PathPointers) → followed_from recorded (recorded c) ks ≡ o → behind w0 c o ≡ Some g → Loads recorded w0 k ks g
     by_more c q None i h = absurd cc
     by_more c q (Some m) i h = let t : record { pointers = w0 ∷ m.pointers; cells = c ∷ m.cells; last = m.last } ≡ g = cc in record { cell = c; more = m; at = q; is = i; whole = t }
 
@@ -71,16 +71,16 @@ loads_of recorded w0 k ks g e = by_cell (cell_at w0 k) refl e
 -- ---- whole paths
 
 -- followed from a word now, a path leads to the recorded bounds, by pointers with recorded bounds
-pub record Follows (now : ByteRange → ℕ) (ks : List ℕ) (w : ℕ) (g : Followed) : Type 0 where
-  pub at : Followed
+pub record Follows (now : ByteRange → ℕ) (ks : List ℕ) (w : ℕ) (g : PathPointers) : Type 0 where
+  pub at : PathPointers
   pub is : followed_from now w ks ≡ Some at
   pub last : bounds_of at.last ≡ bounds_of g.last
   pub pointers : (v : ℕ) → Contains at.pointers v → (v0 : ℕ) × Contains g.pointers v0 × (bounds_of v ≡ bounds_of v0)
 
-tail_pointers : (recorded : ByteRange → ℕ) (g : Followed) (w w0 k : ℕ) (ks : List ℕ) (l : Loads recorded w0 k ks g) (at : Followed)
+tail_pointers : (recorded : ByteRange → ℕ) (g : PathPointers) (w w0 k : ℕ) (ks : List ℕ) (l : Loads recorded w0 k ks g) (at : PathPointers)
     → ((v : ℕ) → Contains at.pointers v → (v0 : ℕ) × Contains l.more.pointers v0 × (bounds_of v ≡ bounds_of v0)) → moved_by w (pos k) ≡ moved_by w0 (pos k) →
     (v : ℕ) → Contains (w ∷ at.pointers) v → (v0 : ℕ) × Contains g.pointers v0 × (bounds_of v ≡ bounds_of v0)
-tail_pointers recorded g w w0 k ks l at points same v i = subst (λ (z : List ℕ). (v0 : ℕ) × Contains z v0 × (bounds_of v ≡ bounds_of v0)) (ap (λ (z : Followed). z.pointers) l.whole)
+tail_pointers recorded g w w0 k ks l at points same v i = subst (λ (z : List ℕ). (v0 : ℕ) × Contains z v0 × (bounds_of v ≡ bounds_of v0)) (ap (λ (z : PathPointers). z.pointers) l.whole)
     (go (cases w at.pointers v i))
   where
     go : (w ≡ v) ⊎ Contains at.pointers v → (v0 : ℕ) × Contains (w0 ∷ l.more.pointers) v0 × (bounds_of v ≡ bounds_of v0)
@@ -88,7 +88,7 @@ tail_pointers recorded g w w0 k ks l at points same v i = subst (λ (z : List �
     go (inr c) = let q = points v c in (q.0, there w0 l.more.pointers q.0 q.1, q.2)
 
 module _ (input : List ℤ) (bytes : ℕ → Symbolic) (memory : ℕ → ℕ) (recorded now : ByteRange → ℕ) (is_now : (c : ByteRange) → now c ≡ number_of memory c.start c.bytes) where
-  abbrev CellsLike : Followed → Type 0
+  abbrev CellsLike : PathPointers → Type 0
   CellsLike g = (c : ByteRange) → Contains g.cells c → (b : ℕ) → is_in c b ≡ true → IsCellLike input (bytes b) (memory b)
 
   -- what a load gives
@@ -97,7 +97,7 @@ module _ (input : List ℤ) (bytes : ℕ → Symbolic) (memory : ℕ → ℕ) (r
       subst (λ (n : ℕ). IsLike input (loaded bytes c.start 8) (Some n)) (sym (is_now c))
       (subst (λ (n : ℕ). IsLike input (loaded bytes c.start n) (Some (number_of memory c.start c.bytes))) e (loaded_like input bytes memory c.start c.bytes h))
 
-  pub follow : (ks : List ℕ) (s : Symbolic) (w0 w : ℕ) (g : Followed) → followed_from recorded w0 ks ≡ Some g → IsLike input s (Some w)
+  pub follow : (ks : List ℕ) (s : Symbolic) (w0 w : ℕ) (g : PathPointers) → followed_from recorded w0 ks ≡ Some g → IsLike input s (Some w)
       → AllOf (Holds input) (path_needs bytes s ks g.pointers g.cells g.last) → CellsLike g → Follows now ks w g
   follow [] s w0 w g e h needs cells = record {
     at = record { pointers = []; cells = []; last = w };
@@ -107,10 +107,10 @@ module _ (input : List ℤ) (bytes : ℕ → Symbolic) (memory : ℕ → ℕ) (r
   }
   follow (k ∷ ks) s w0 w g e h needs cells = go (loads_of recorded w0 k ks g e) (λ s2 u0 u g2 e2 h2 n2 c2. follow ks s2 u0 u g2 e2 h2 n2 c2)
     where
-      go : Loads recorded w0 k ks g → ((s2 : Symbolic) (u0 u : ℕ) (g2 : Followed) → followed_from recorded u0 ks ≡ Some g2 → IsLike input s2 (Some u)
+      go : Loads recorded w0 k ks g → ((s2 : Symbolic) (u0 u : ℕ) (g2 : PathPointers) → followed_from recorded u0 ks ≡ Some g2 → IsLike input s2 (Some u)
           → AllOf (Holds input) (path_needs bytes s2 ks g2.pointers g2.cells g2.last) → CellsLike g2 → Follows now ks u g2) → Follows now (k ∷ ks) w g
       go l more =
-          let n = subst (λ (z : Followed). AllOf (Holds input) (path_needs bytes s (k ∷ ks) z.pointers z.cells z.last)) (sym l.whole) needs in
+          let n = subst (λ (z : PathPointers). AllOf (Holds input) (path_needs bytes s (k ∷ ks) z.pointers z.cells z.last)) (sym l.whole) needs in
           let c = subst CellsLike (sym l.whole) cells in
           let f = n.0.0 in
           let value : f input ≡ Some (moved_by w (pos k)) = moved_value input k s f w n.0.1 h in
@@ -122,7 +122,7 @@ module _ (input : List ℤ) (bytes : ℕ → Symbolic) (memory : ℕ → ℕ) (r
           record {
             at = record { pointers = w ∷ r.at.pointers; cells = l.cell ∷ r.at.cells; last = r.at.last };
             is = ap (λ (o : Option ByteRange). option_and_then (λ (d : ByteRange). behind w d (followed_from now (now d) ks)) o) cell ∙ ap (behind w l.cell) r.is;
-            last = r.last ∙ ap (λ (z : Followed). bounds_of z.last) l.whole;
+            last = r.last ∙ ap (λ (z : PathPointers). bounds_of z.last) l.whole;
             pointers = tail_pointers recorded g w w0 k ks l r.at r.pointers same;
           }
 
@@ -168,10 +168,10 @@ module _ (input : List ℤ) (bytes : ℕ → Symbolic) (memory : ℕ → ℕ) (r
   value_root (Unknown x) v k n f h e m = absurd cc
 
   -- what is asked of a path asks that its root has a value
-  pub root_there : (ks : List ℕ) (s : Symbolic) (v : Option ℕ) (w0 : ℕ) (g : Followed) → followed_from recorded w0 ks ≡ Some g → IsLike input s v
+  pub root_there : (ks : List ℕ) (s : Symbolic) (v : Option ℕ) (w0 : ℕ) (g : PathPointers) → followed_from recorded w0 ks ≡ Some g → IsLike input s v
       → AllOf (Holds input) (path_needs bytes s ks g.pointers g.cells g.last) → (w : ℕ) × (v ≡ Some w)
   root_there [] s v w0 g e h needs = bounds_root s v g.last h needs.0
   root_there (k ∷ ks) s v w0 g e h needs =
       let l = loads_of recorded w0 k ks g e in
-      let n = subst (λ (z : Followed). AllOf (Holds input) (path_needs bytes s (k ∷ ks) z.pointers z.cells z.last)) (sym l.whole) needs in
+      let n = subst (λ (z : PathPointers). AllOf (Holds input) (path_needs bytes s (k ∷ ks) z.pointers z.cells z.last)) (sym l.whole) needs in
       value_root s v k (moved_by w0 (pos k)) n.0.0 h n.0.1 (met_number (moved_by w0 (pos k)) (n.0.0 input) n.0.2.0)

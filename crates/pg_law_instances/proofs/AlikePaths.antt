@@ -7,8 +7,8 @@ use Rattle.pg_ir.specs.declared.instr.Instr.{Instr}
 use Rattle.pg_ir.specs.Program.{NumberedProgram}
 use Rattle.pg_region_paths.specs.declared.path.Loads.{Loads}
 use Rattle.pg_region_paths.specs.declared.path.Loads.TheVariants.{Never, Once, Twice, Thrice, FourTimes}
-use Rattle.pg_region_paths.specs.Followed as followed
-use Rattle.pg_region_paths.specs.Followed.{Followed, cell_at, followed_from, root_value}
+use Rattle.pg_region_paths.specs.FollowedPaths as followed
+use Rattle.pg_region_paths.specs.FollowedPaths.{PathPointers, cell_at, followed_from, root_value}
 use Rattle.pg_region_paths.specs.Paths.{offsets_of}
 use Rattle.pg_region_accesses.specs.declared.rooted.Rooted.{Rooted}
 use Rattle.pg_region_accesses.specs.Accesses.{RootedList}
@@ -26,26 +26,26 @@ use Rattle.pg_law_instances.proofs.FreeableSteps.{apart_at, at_branch, followed_
 use Rattle.pg_law_instances.proofs.PathsOfValues.{follows_root, root_follows}
 
 -- in memory with the same cells a path is followed in the same way
-same_cells : (before now : ByteRange → ℕ) (ks : List ℕ) (w : ℕ) (at : Followed) → followed_from before w ks ≡ Some at
+same_cells : (before now : ByteRange → ℕ) (ks : List ℕ) (w : ℕ) (at : PathPointers) → followed_from before w ks ≡ Some at
     → ((c : ByteRange) → Contains at.cells c → now c ≡ before c) → followed_from now w ks ≡ Some at
 same_cells before now [] w at e h = e
 same_cells before now (k ∷ ks) w at e h = go (cell_at w k) refl e (λ u more q i. same_cells before now ks u more q i)
   where
-    with_more : (c : ByteRange) (o : Option Followed) → cell_at w k ≡ Some c → followed_from before (before c) ks ≡ o → followed.behind w c o ≡ Some at
-        → ((u : ℕ) (more : Followed) → followed_from before u ks ≡ Some more → ((c : ByteRange) → Contains more.cells c → now c ≡ before c)
+    with_more : (c : ByteRange) (o : Option PathPointers) → cell_at w k ≡ Some c → followed_from before (before c) ks ≡ o → followed.behind w c o ≡ Some at
+        → ((u : ℕ) (more : PathPointers) → followed_from before u ks ≡ Some more → ((c : ByteRange) → Contains more.cells c → now c ≡ before c)
         → followed_from now u ks ≡ Some more) → followed_from now w (k ∷ ks) ≡ Some at
     with_more c None q r v rest = absurd cc
     with_more c (Some more) q r v rest =
         let is : record { pointers = w ∷ more.pointers; cells = c ∷ more.cells; last = more.last } ≡ at = cc in
-        let cells : at.cells ≡ c ∷ more.cells = ap (λ (f : Followed). f.cells) (sym is) in
+        let cells : at.cells ≡ c ∷ more.cells = ap (λ (f : PathPointers). f.cells) (sym is) in
         let held : now c ≡ before c = h c (subst (λ (l : List ByteRange). Contains l c) (sym cells) (here c more.cells)) in
         let next : followed_from now (before c) ks ≡ Some more = rest (before c) more r (λ d m. h d (subst (λ (l : List ByteRange). Contains l d) (sym cells) (there c more.cells d m))) in
         ap (λ (o : Option ByteRange). option_and_then (λ cell. followed.behind w cell (followed_from now (now cell) ks)) o) q
         ∙ ap (λ (u : ℕ). followed.behind w c (followed_from now u ks)) held
-        ∙ ap (followed.behind w c) next ∙ ap (λ (f : Followed). Some f) is
+        ∙ ap (followed.behind w c) next ∙ ap (λ (f : PathPointers). Some f) is
 
     go : (o : Option ByteRange) → cell_at w k ≡ o → option_and_then (λ cell. followed.behind w cell (followed_from before (before cell) ks)) o ≡ Some at
-        → ((u : ℕ) (more : Followed) → followed_from before u ks ≡ Some more → ((c : ByteRange) → Contains more.cells c → now c ≡ before c)
+        → ((u : ℕ) (more : PathPointers) → followed_from before u ks ≡ Some more → ((c : ByteRange) → Contains more.cells c → now c ≡ before c)
         → followed_from now u ks ≡ Some more) →
         followed_from now w (k ∷ ks) ≡ Some at
     go None q v rest = absurd cc
@@ -56,7 +56,7 @@ module _ (p : NumberedProgram) (gated : ℕ → Bool) (sums : ℕ → Option Roo
   access_leads : (a : Rooted) → Contains r.accesses.items a → Leads p (registers_by f.registers) (read s.memory) q.accesses a
   access_leads a c = go a.path.loads refl
     where
-      recorded : (g : Followed) × (followed.followed p (recorded_registers m) (number_in m) a.path ≡ Some g) × Contains q.accesses (record { writes = a.writes; path = a.path; at = g })
+      recorded : (g : PathPointers) × (followed.followed p (recorded_registers m) (number_in m) a.path ≡ Some g) × Contains q.accesses (record { writes = a.writes; path = a.path; at = g })
       recorded = followed_at p m r.accesses.items q.accesses a h.recorded c
 
       alike : IsAlike p m (registers_by f.registers) (read s.memory) a.path
@@ -78,7 +78,7 @@ module _ (p : NumberedProgram) (gated : ℕ → Bool) (sums : ℕ → Option Roo
             is = root_follows (read s.memory) (offsets_of a.path.loads) (root_value p (registers_by f.registers) a.path.root) alike.word alike.is_word
                 ∙ ap (λ (v : Loads). followed_from (read s.memory) alike.word (offsets_of v)) e;
             loads = λ w d. absurd (none_in w d);
-            last = reached alike.word (alike.bounds root.0 root.1 ∙ ap (λ (g : Followed). bounds_of g.last) is);
+            last = reached alike.word (alike.bounds root.0 root.1 ∙ ap (λ (g : PathPointers). bounds_of g.last) is);
           }
 
       -- it loads

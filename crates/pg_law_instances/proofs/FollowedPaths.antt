@@ -15,8 +15,8 @@ use Rattle.pg_ir.specs.declared.value.Scale.{Scale}
 use Rattle.pg_ir.specs.declared.value.Scale.TheVariants.{Times, Field}
 use Rattle.pg_ir.specs.Program.{NumberedProgram}
 use Rattle.pg_region_paths.specs.Registers.{constant_bytes, added_index, added_indices}
-use Rattle.pg_region_paths.specs.Followed as followed
-use Rattle.pg_region_paths.specs.Followed.{Followed, followed_from, cell_at, cell_in, root_value}
+use Rattle.pg_region_paths.specs.FollowedPaths as followed
+use Rattle.pg_region_paths.specs.FollowedPaths.{PathPointers, followed_from, cell_at, cell_in, root_value}
 use Rattle.pg_run_thread.specs.Operands.{operand, number_at, optional_operand, given}
 use Rattle.pg_run_thread.specs.Compute.{index_bytes, moved_along}
 use Rattle.pg_slice_replay.specs.pg_slice_rules.Freeable.{bounds_of}
@@ -108,33 +108,33 @@ gep_moved p rs base last added is w h =
 
 -- ---- loads one after another
 
-abbrev joined : Followed → Followed → Followed
+abbrev joined : PathPointers → PathPointers → PathPointers
 joined a b = record { pointers = a.pointers ++ b.pointers; cells = a.cells ++ b.cells; last = b.last }
 
 -- the loads of one list and then those of another
-pub record FollowsBoth (memory : ByteRange → ℕ) (word : ℕ) (ks ls : List ℕ) (at : Followed) : Type 0 where
-  pub first : Followed
-  pub second : Followed
+pub record FollowsBoth (memory : ByteRange → ℕ) (word : ℕ) (ks ls : List ℕ) (at : PathPointers) : Type 0 where
+  pub first : PathPointers
+  pub second : PathPointers
   pub is_first : followed_from memory word ks ≡ Some first
   pub is_second : followed_from memory first.last ls ≡ Some second
   pub pointers : at.pointers ≡ first.pointers ++ second.pointers
   pub last : at.last ≡ second.last
 
-behind_some : (word : ℕ) (cell : ByteRange) (o : Option Followed) (at : Followed) → followed.behind word cell o ≡ Some at
-    → (f : Followed) × (o ≡ Some f) × (record { pointers = word ∷ f.pointers; cells = cell ∷ f.cells; last = f.last } ≡ at)
+behind_some : (word : ℕ) (cell : ByteRange) (o : Option PathPointers) (at : PathPointers) → followed.behind word cell o ≡ Some at
+    → (f : PathPointers) × (o ≡ Some f) × (record { pointers = word ∷ f.pointers; cells = cell ∷ f.cells; last = f.last } ≡ at)
 behind_some word cell None at e = absurd cc
 behind_some word cell (Some f) at e = (f, refl, cc)
 
 -- a first load
-pub record LoadsFirst (memory : ByteRange → ℕ) (word k : ℕ) (ks : List ℕ) (at : Followed) : Type 0 where
+pub record LoadsFirst (memory : ByteRange → ℕ) (word k : ℕ) (ks : List ℕ) (at : PathPointers) : Type 0 where
   pub cell : ByteRange
   pub is_cell : cell_at word k ≡ Some cell
-  pub more : Followed
+  pub more : PathPointers
   pub is_more : followed_from memory (memory cell) ks ≡ Some more
   pub pointers : at.pointers ≡ word ∷ more.pointers
   pub last : at.last ≡ more.last
 
-pub loads_first : (memory : ByteRange → ℕ) (word k : ℕ) (ks : List ℕ) (at : Followed) → followed_from memory word (k ∷ ks) ≡ Some at → LoadsFirst memory word k ks at
+pub loads_first : (memory : ByteRange → ℕ) (word k : ℕ) (ks : List ℕ) (at : PathPointers) → followed_from memory word (k ∷ ks) ≡ Some at → LoadsFirst memory word k ks at
 loads_first memory word k ks at e = go (cell_at word k) refl e
   where
     go : (o : Option ByteRange) → cell_at word k ≡ o → option_and_then (λ cell. followed.behind word cell (followed_from memory (memory cell) ks)) o ≡ Some at
@@ -142,18 +142,18 @@ loads_first memory word k ks at e = go (cell_at word k) refl e
     go None q e = absurd cc
     go (Some cell) q e =
         let b = behind_some word cell (followed_from memory (memory cell) ks) at e in
-        record { cell = cell; is_cell = q; more = b.0; is_more = b.1; pointers = sym (ap (λ (z : Followed). z.pointers) b.2); last = sym (ap (λ (z : Followed). z.last) b.2) }
+        record { cell = cell; is_cell = q; more = b.0; is_more = b.1; pointers = sym (ap (λ (z : PathPointers). z.pointers) b.2); last = sym (ap (λ (z : PathPointers). z.last) b.2) }
 
-pub loads_again : (memory : ByteRange → ℕ) (word k : ℕ) (ks : List ℕ) (cell : ByteRange) (more : Followed) → cell_at word k ≡ Some cell
+pub loads_again : (memory : ByteRange → ℕ) (word k : ℕ) (ks : List ℕ) (cell : ByteRange) (more : PathPointers) → cell_at word k ≡ Some cell
     → followed_from memory (memory cell) ks ≡ Some more →
     followed_from memory word (k ∷ ks) ≡ Some (record { pointers = word ∷ more.pointers; cells = cell ∷ more.cells; last = more.last })
 loads_again memory word k ks cell more e f = rw (e, f) refl
 
-pub follows_both : (memory : ByteRange → ℕ) (word : ℕ) (ks ls : List ℕ) (at : Followed) → followed_from memory word (ks ++ ls) ≡ Some at → FollowsBoth memory word ks ls at
+pub follows_both : (memory : ByteRange → ℕ) (word : ℕ) (ks ls : List ℕ) (at : PathPointers) → followed_from memory word (ks ++ ls) ≡ Some at → FollowsBoth memory word ks ls at
 follows_both memory word [] ls at e = record { first = record { pointers = []; cells = []; last = word }; second = at; is_first = refl; is_second = e; pointers = refl; last = refl }
 follows_both memory word (k ∷ ks) ls at e = go (loads_first memory word k (ks ++ ls) at e) (λ w f q. follows_both memory w ks ls f q)
   where
-    go : LoadsFirst memory word k (ks ++ ls) at → ((w : ℕ) (f : Followed) → followed_from memory w (ks ++ ls) ≡ Some f → FollowsBoth memory w ks ls f)
+    go : LoadsFirst memory word k (ks ++ ls) at → ((w : ℕ) (f : PathPointers) → followed_from memory w (ks ++ ls) ≡ Some f → FollowsBoth memory w ks ls f)
         → FollowsBoth memory word (k ∷ ks) ls at
     go l more =
         let b = more (memory l.cell) l.more l.is_more in

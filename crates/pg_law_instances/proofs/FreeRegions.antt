@@ -6,7 +6,7 @@ use Rattle.pg_ir.specs.Program.{NumberedProgram}
 use Rattle.pg_ir.specs.WellFormed.{IsProgram}
 use Rattle.pg_cfg.specs.Graphs.{Enters}
 use Rattle.pg_cfg.specs.Graphs.Enters.{now, after}
-use Rattle.pg_region_paths.specs.Followed.{Followed, followed}
+use Rattle.pg_region_paths.specs.FollowedPaths.{PathPointers, followed}
 use Rattle.pg_region_accesses.specs.declared.rooted.Rooted.{Rooted}
 use Rattle.pg_region_accesses.specs.Accesses.{RootedList}
 use Rattle.pg_region_paths.proofs.Elements.{here, there, cases, none_in}
@@ -52,8 +52,8 @@ freed p gated sums regions are m c q e = go (are.found c) refl (are.right c) (su
         let k = apart_parts (record { join = r.join; sets = may_set p r; accesses = map free_access r.accesses.items }) (accesses_at p m (map free_access r.accesses.items)) q h in
         record { region = r; found_is = f; is_region = is; join = k.0; sets = k.1; accesses = k.2; apart = k.3 }
 
-one_parts : (a : RegionAccess) (o : Option Followed) (xs : Option (List FreeAccess)) (ys : List FreeAccess) → free.one_access a o xs ≡ Some ys
-    → (f : Followed) × (zs : List FreeAccess) × (o ≡ Some f) × (xs ≡ Some zs) × (ys ≡ record { writes = a.writes; path = a.path; at = f } ∷ zs)
+one_parts : (a : RegionAccess) (o : Option PathPointers) (xs : Option (List FreeAccess)) (ys : List FreeAccess) → free.one_access a o xs ≡ Some ys
+    → (f : PathPointers) × (zs : List FreeAccess) × (o ≡ Some f) × (xs ≡ Some zs) × (ys ≡ record { writes = a.writes; path = a.path; at = f } ∷ zs)
 one_parts a None xs ys e = absurd cc
 one_parts a (Some f) None ys e = absurd cc
 one_parts a (Some f) (Some zs) ys e = (f, zs, refl, refl, cc)
@@ -70,7 +70,7 @@ source_of p m [] ys y e c = let t : [] ≡ ys = cc in absurd (none_in y (subst (
 source_of p m (x ∷ xs) ys y e c = go (one_parts (free_access x) (followed p (registers_by (registers_in m.calls)) (number_in m) x.path) (accesses_at p m (map free_access xs)) ys e)
     (λ zs q d. source_of p m xs zs y q d)
   where
-    go : (f : Followed) × (zs : List FreeAccess) × (followed p (registers_by (registers_in m.calls)) (number_in m) x.path ≡ Some f) × (accesses_at p m (map free_access xs) ≡ Some zs)
+    go : (f : PathPointers) × (zs : List FreeAccess) × (followed p (registers_by (registers_in m.calls)) (number_in m) x.path ≡ Some f) × (accesses_at p m (map free_access xs) ≡ Some zs)
         × (ys ≡ record { writes = x.writes; path = x.path; at = f } ∷ zs)
         → ((zs : List FreeAccess) → accesses_at p m (map free_access xs) ≡ Some zs → Contains zs y → Source p m xs y) → Source p m (x ∷ xs) y
     go h more = pick (cases (record { writes = x.writes; path = x.path; at = h.0 }) h.1 y (subst (λ (l : List FreeAccess). Contains l y) h.4 c))

@@ -9,7 +9,7 @@ use Rattle.pg_ir.specs.declared.instr.Instr.{Instr}
 use Rattle.pg_ir.specs.Program.{NumberedProgram, function_of}
 use Rattle.pg_ir.specs.Edges.{successors}
 use Rattle.pg_ir.specs.WellFormed.{IsProgram}
-use Rattle.pg_region_paths.specs.Followed.{Followed, followed}
+use Rattle.pg_region_paths.specs.FollowedPaths.{PathPointers, followed}
 use Rattle.pg_region_accesses.specs.declared.rooted.Rooted.{Rooted}
 use Rattle.pg_region_accesses.specs.Accesses.{RootedList}
 use Rattle.pg_region_paths.proofs.Elements.{here, there, cases, none_in}
@@ -33,24 +33,24 @@ use Rattle.pg_run_memory.specs.Bytes.{number_of}
 
 -- ---- accesses at a step
 
-one_parts : (a : RegionAccess) (o : Option Followed) (xs : Option (List FreeAccess)) (ys : List FreeAccess) → free.one_access a o xs ≡ Some ys
-    → (f : Followed) × (zs : List FreeAccess) × (o ≡ Some f) × (xs ≡ Some zs) × (ys ≡ record { writes = a.writes; path = a.path; at = f } ∷ zs)
+one_parts : (a : RegionAccess) (o : Option PathPointers) (xs : Option (List FreeAccess)) (ys : List FreeAccess) → free.one_access a o xs ≡ Some ys
+    → (f : PathPointers) × (zs : List FreeAccess) × (o ≡ Some f) × (xs ≡ Some zs) × (ys ≡ record { writes = a.writes; path = a.path; at = f } ∷ zs)
 one_parts a None xs ys e = absurd cc
 one_parts a (Some f) None ys e = absurd cc
 one_parts a (Some f) (Some zs) ys e = (f, zs, refl, refl, cc)
 
 -- each access is followed to one of those at the step
 pub followed_at : (p : NumberedProgram) (m : Moment) (xs : RootedList) (ys : List FreeAccess) (a : Rooted) → accesses_at p m (map free_access xs) ≡ Some ys → Contains xs a →
-    (f : Followed) × (followed p (registers_by (registers_in m.calls)) (number_in m) a.path ≡ Some f) × Contains ys (record { writes = a.writes; path = a.path; at = f })
+    (f : PathPointers) × (followed p (registers_by (registers_in m.calls)) (number_in m) a.path ≡ Some f) × Contains ys (record { writes = a.writes; path = a.path; at = f })
 followed_at p m [] ys a e c = absurd (none_in a c)
 followed_at p m (x ∷ xs) ys a e c = go (one_parts (free_access x) (followed p (registers_by (registers_in m.calls)) (number_in m) x.path) (accesses_at p m (map free_access xs)) ys e)
     (cases x xs a c) (λ zs q d. followed_at p m xs zs a q d)
   where
-    go : (f : Followed) × (zs : List FreeAccess) × (followed p (registers_by (registers_in m.calls)) (number_in m) x.path ≡ Some f) × (accesses_at p m (map free_access xs) ≡ Some zs)
+    go : (f : PathPointers) × (zs : List FreeAccess) × (followed p (registers_by (registers_in m.calls)) (number_in m) x.path ≡ Some f) × (accesses_at p m (map free_access xs) ≡ Some zs)
         × (ys ≡ record { writes = x.writes; path = x.path; at = f } ∷ zs) → (x ≡ a) ⊎ Contains xs a →
         ((zs : List FreeAccess) → accesses_at p m (map free_access xs) ≡ Some zs → Contains xs a
-        → (f : Followed) × (followed p (registers_by (registers_in m.calls)) (number_in m) a.path ≡ Some f) × Contains zs (record { writes = a.writes; path = a.path; at = f })) →
-        (f : Followed) × (followed p (registers_by (registers_in m.calls)) (number_in m) a.path ≡ Some f) × Contains ys (record { writes = a.writes; path = a.path; at = f })
+        → (f : PathPointers) × (followed p (registers_by (registers_in m.calls)) (number_in m) a.path ≡ Some f) × Contains zs (record { writes = a.writes; path = a.path; at = f })) →
+        (f : PathPointers) × (followed p (registers_by (registers_in m.calls)) (number_in m) a.path ≡ Some f) × Contains ys (record { writes = a.writes; path = a.path; at = f })
     go h (inl q) more = (
       h.0,
       subst (λ (z : Rooted). followed p (registers_by (registers_in m.calls)) (number_in m) z.path ≡ Some h.0) q h.2,
@@ -141,7 +141,7 @@ module _ (p : NumberedProgram) (gated : ℕ → Bool) (sums : ℕ → Option Roo
   unfolding read
   leads_there m calls bytes e a c = go (followed_at p m r.accesses.items q.accesses a e c)
     where
-      go : (g : Followed) × (followed p (registers_by (registers_in m.calls)) (number_in m) a.path ≡ Some g) × Contains q.accesses (record { writes = a.writes; path = a.path; at = g })
+      go : (g : PathPointers) × (followed p (registers_by (registers_in m.calls)) (number_in m) a.path ≡ Some g) × Contains q.accesses (record { writes = a.writes; path = a.path; at = g })
           → Leads p (registers_by f.registers) (read s.memory) q.accesses a
       go h = record {
         at = h.0;

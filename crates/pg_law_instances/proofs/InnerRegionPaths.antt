@@ -15,8 +15,8 @@ use Rattle.pg_ir.specs.WellFormed.{IsProgram}
 use Rattle.pg_region_paths.specs.declared.path.Path.{Path}
 use Rattle.pg_region_paths.specs.declared.path.Root.{Root}
 use Rattle.pg_region_paths.specs.declared.path.Root.TheVariants as root
-use Rattle.pg_region_paths.specs.Followed as followed
-use Rattle.pg_region_paths.specs.Followed.{Followed, cell_at, cell_in, followed_from, root_value}
+use Rattle.pg_region_paths.specs.FollowedPaths as followed
+use Rattle.pg_region_paths.specs.FollowedPaths.{PathPointers, cell_at, cell_in, followed_from, root_value}
 use Rattle.pg_region_paths.specs.Paths.{offsets_of}
 use Rattle.pg_region_paths.specs.Registers.{register_path}
 use Rattle.pg_region_accesses.specs.declared.rooted.Rooted.{Rooted}
@@ -98,13 +98,13 @@ placed_by (Err f) c e = absurd cc
 placed_by (Ok r) c e = let q : r ≡ c = cc in ap (λ (z : ByteRange). Ok z) q
 
 -- a path that loads from recorded bounds alone leads to the same pointer
-pub same_loads : (xs : List FreeAccess) (before now : ByteRange → ℕ) → KeepsCells xs before now → (ks : List ℕ) (w : ℕ) (at : Followed) → followed_from before w ks ≡ Some at
-    → ((v : ℕ) → Contains at.pointers v → IsLoaded xs (bounds_of v)) → (f : Followed) × (followed_from now w ks ≡ Some f) × (f.last ≡ at.last)
+pub same_loads : (xs : List FreeAccess) (before now : ByteRange → ℕ) → KeepsCells xs before now → (ks : List ℕ) (w : ℕ) (at : PathPointers) → followed_from before w ks ≡ Some at
+    → ((v : ℕ) → Contains at.pointers v → IsLoaded xs (bounds_of v)) → (f : PathPointers) × (followed_from now w ks ≡ Some f) × (f.last ≡ at.last)
 same_loads xs before now keeps [] w at e h = (at, e, refl)
 same_loads xs before now keeps (k ∷ ks) w at e h = go (loads_first before w k ks at e) (λ u more q i. same_loads xs before now keeps ks u more q i)
   where
-    go : LoadsFirst before w k ks at → ((u : ℕ) (more : Followed) → followed_from before u ks ≡ Some more → ((v : ℕ) → Contains more.pointers v → IsLoaded xs (bounds_of v))
-        → (f : Followed) × (followed_from now u ks ≡ Some f) × (f.last ≡ more.last)) → (f : Followed) × (followed_from now w (k ∷ ks) ≡ Some f) × (f.last ≡ at.last)
+    go : LoadsFirst before w k ks at → ((u : ℕ) (more : PathPointers) → followed_from before u ks ≡ Some more → ((v : ℕ) → Contains more.pointers v → IsLoaded xs (bounds_of v))
+        → (f : PathPointers) × (followed_from now u ks ≡ Some f) × (f.last ≡ more.last)) → (f : PathPointers) × (followed_from now w (k ∷ ks) ≡ Some f) × (f.last ≡ at.last)
     go l rest =
         let loaded : IsLoaded xs (bounds_of w) = h w (subst (λ (z : List ℕ). Contains z w) (sym l.pointers) (here w l.more.pointers)) in
         let place : place_of (moved_by w (pos k)) 8 ≡ Ok l.cell = placed_by (place_of (moved_by w (pos k)) 8) l.cell l.is_cell in
@@ -124,7 +124,7 @@ root_same I a f s (root.Register r) o = s.kept r o
 root_same I a f s (root.Param k) o = absurd o
 
 -- an access of a part of the set, followed from the frame in memory as it is now, leads to recorded bounds of its kind
-pub inner_reached : (I : Instance) (a : QuietSet) (f : Frame) (now : ByteRange → ℕ) (small : List ℕ) (some : RootedList) (x : Rooted) (at : Followed) → IsQuietSet I a → StandsIn I a f
+pub inner_reached : (I : Instance) (a : QuietSet) (f : Frame) (now : ByteRange → ℕ) (small : List ℕ) (some : RootedList) (x : Rooted) (at : PathPointers) → IsQuietSet I a → StandsIn I a f
     → KeepsCells I.recorded I.memory now → set_accesses false I.program I.gated I.sums small ≡ Some some → ((b : ℕ) → Contains small b → Contains a.blocks b) → Contains some x →
     followed.followed I.program (registers_by f.registers) now x.path ≡ Some at → IsReached I.recorded x.writes (bounds_of at.last)
 inner_reached I a f now small some x at q s keeps e h c g =
@@ -136,7 +136,7 @@ inner_reached I a f now small some x at q s keeps e h c g =
     let there_is : followed.followed I.program (registers_by f.registers) now x.path ≡ Some m.0 =
     root_follows now (offsets_of x.path.loads) (root_value I.program (registers_by f.registers) x.path.root) r.0 (root_same I a f s x.path.root out ∙ r.1) ∙ m.1 in
     let same : m.0 ≡ at = (let z : Some m.0 ≡ Some at = sym there_is ∙ g in cc) in
-    subst (λ (z : ℕ). IsReached I.recorded x.writes (bounds_of z)) (sym m.2 ∙ ap (λ (z : Followed). z.last) same) l.last
+    subst (λ (z : ℕ). IsReached I.recorded x.writes (bounds_of z)) (sym m.2 ∙ ap (λ (z : PathPointers). z.last) same) l.last
 
 -- the blocks before a join stand in the function of the branch
 pub region_function : (p : NumberedProgram) (gated : ℕ → Bool) (sums : ℕ → Option RootedList) (c : ℕ) (r : Region) → IsProgram p

@@ -5,7 +5,7 @@ use Rattle.pg_run_memory.specs.Memory.{read}
 use Rattle.pg_ir.specs.declared.ids.InstrId.{InstrId}
 use Rattle.pg_ir.specs.declared.instr.Instr.{Instr}
 use Rattle.pg_ir.specs.Program.{NumberedProgram, function_of}
-use Rattle.pg_region_paths.specs.Followed.{Followed, followed}
+use Rattle.pg_region_paths.specs.FollowedPaths.{PathPointers, followed}
 use Rattle.pg_region_accesses.specs.declared.rooted.Rooted.{Rooted}
 use Rattle.pg_region_accesses.specs.Accesses.{RootedList}
 use Rattle.pg_region_summaries.specs.Blocks.{blocks_of}
@@ -44,7 +44,7 @@ module _ (p : NumberedProgram) (gated : List InstrId) (sums : ℕ → Option Roo
       let d : Contains outer.blocks.items x.block.0 = subst (λ (n : ℕ). Contains outer.blocks.items n) (sym (at_block I (region_set I) frame x h.can.branch.program b.stands at).0) b.stands.among in
       regions_nest p (λ i. is_gated gated i) sums c x.block.0 v.block outer inner is_outer is_inner d v.path v.loud
 
-  leads : (a : Rooted) (f : Followed) → Contains inner.accesses.items a → followed p (registers_by frame.registers) (read s.memory) a.path ≡ Some f
+  leads : (a : Rooted) (f : PathPointers) → Contains inner.accesses.items a → followed p (registers_by frame.registers) (read s.memory) a.path ≡ Some f
       → LeadsTo q.accesses a.writes (bounds_of f.last)
   leads a f m e = go stands
     where

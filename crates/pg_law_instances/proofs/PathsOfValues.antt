@@ -17,8 +17,8 @@ use Rattle.pg_region_paths.specs.declared.path.RootPath.{RootPath}
 use Rattle.pg_region_paths.specs.declared.path.Path.{Path}
 use Rattle.pg_region_paths.specs.Paths.{offsets_of, one_more, each_more, appended, moved_offset, shifted, rooted, path_with, loaded_at, loaded, root_path_with, loads_behind, composed, root_path_of}
 use Rattle.pg_region_paths.specs.Registers.{moved}
-use Rattle.pg_region_paths.specs.Followed as followed
-use Rattle.pg_region_paths.specs.Followed.{Followed, followed_from, cell_at, cell_in, root_value}
+use Rattle.pg_region_paths.specs.FollowedPaths as followed
+use Rattle.pg_region_paths.specs.FollowedPaths.{PathPointers, followed_from, cell_at, cell_in, root_value}
 use Rattle.pg_region_accesses.specs.declared.rooted.Rooted.{Rooted}
 use Rattle.pg_region_paths.proofs.Elements.{here, there, cases}
 use Rattle.pg_run_thread.specs.Operands.{number_at}
@@ -70,23 +70,23 @@ pub root_follows : (memory : ByteRange → ℕ) (ks : List ℕ) (o : Option ℕ)
 root_follows memory ks o w e = ap (λ (z : Option ℕ). option_and_then (λ word. followed_from memory word ks) z) e
 
 -- a followed path has a root's value
-pub follows_root : (memory : ByteRange → ℕ) (ks : List ℕ) (o : Option ℕ) (at : Followed) → option_and_then (λ word. followed_from memory word ks) o ≡ Some at
+pub follows_root : (memory : ByteRange → ℕ) (ks : List ℕ) (o : Option ℕ) (at : PathPointers) → option_and_then (λ word. followed_from memory word ks) o ≡ Some at
     → (w : ℕ) × (o ≡ Some w) × (followed_from memory w ks ≡ Some at)
 follows_root memory ks None at e = absurd cc
 follows_root memory ks (Some w) at e = (w, refl, e)
 
 module _ (p : NumberedProgram) (registers : ℕ → Option ℕ) (memory : ByteRange → ℕ) (xs : List FreeAccess) where
-  abbrev Recorded : Followed → Type 0
+  abbrev Recorded : PathPointers → Type 0
   Recorded at = (v : ℕ) → Contains at.pointers v → IsLoaded xs (bounds_of v)
 
   -- the value of a root has the root as its path
   pub root_has : (r : Root) (w : ℕ) → root_value p registers r ≡ Some w → HasPath p registers memory xs (rooted r) w
   root_has r w e = record {
     value = λ at f k. let q : record { pointers = []; cells = []; last = w } ≡ at = inner at (sym (root_follows memory [] (root_value p registers r) w e) ∙ f) in
-        subst (λ (z : Followed). IsMoved z.last (Some 0) w) q (sym (moved_by-zero w));
+        subst (λ (z : PathPointers). IsMoved z.last (Some 0) w) q (sym (moved_by-zero w));
   }
     where
-      inner : (at : Followed) → followed_from memory w [] ≡ Some at → record { pointers = []; cells = []; last = w } ≡ at
+      inner : (at : PathPointers) → followed_from memory w [] ≡ Some at → record { pointers = []; cells = []; last = w } ≡ at
       inner at f = cc
 
   -- a getelementptr moves a pointer and its path
@@ -103,7 +103,7 @@ module _ (p : NumberedProgram) (registers : ℕ → Option ℕ) (memory : ByteRa
       → place_of w 8 ≡ Ok cell → n ≡ now cell → HasPath p registers memory xs q' n
   load_has q q' w n cell now keeps h l e v = go q.added refl l
     where
-      last_load : (k : ℕ) (l' : Loads) → q.added ≡ Some k → one_more q.loads k ≡ Some l' → (at : Followed)
+      last_load : (k : ℕ) (l' : Loads) → q.added ≡ Some k → one_more q.loads k ≡ Some l' → (at : PathPointers)
           → option_and_then (λ word. followed_from memory word (offsets_of l')) (root_value p registers q.root) ≡ Some at → Recorded at → n ≡ moved_by at.last (pos 0)
       last_load k l' a s at f rec =
           let r = follows_root memory (offsets_of l') (root_value p registers q.root) at f in
@@ -123,8 +123,8 @@ module _ (p : NumberedProgram) (registers : ℕ → Option ℕ) (memory : ByteRa
           let end : at.last ≡ memory cell = b.last ∙ m.last ∙ ends m.more (memory m.cell) m.is_more ∙ ap memory c in
           v ∙ held ∙ sym end ∙ sym (moved_by-zero at.last)
         where
-          ends : (f : Followed) (x : ℕ) → followed_from memory x [] ≡ Some f → f.last ≡ x
-          ends f x t = let u : record { pointers = []; cells = []; last = x } ≡ f = cc in sym (ap (λ (z : Followed). z.last) u)
+          ends : (f : PathPointers) (x : ℕ) → followed_from memory x [] ≡ Some f → f.last ≡ x
+          ends f x t = let u : record { pointers = []; cells = []; last = x } ≡ f = cc in sym (ap (λ (z : PathPointers). z.last) u)
 
       with_more : (k : ℕ) → q.added ≡ Some k → (o : Option Loads) → one_more q.loads k ≡ o → path_with q.root o ≡ Some q' → HasPath p registers memory xs q' n
       with_more k a None s t = absurd cc
@@ -147,13 +147,13 @@ module _ (p : NumberedProgram) (registers : ℕ → Option ℕ) (memory : ByteRa
   -- ---- arguments
 
   -- loads from w that lead where a path that was followed leads
-  abbrev Behind : ℕ → ℕ → List ℕ → Followed → Type 0
-  Behind w k ks f = (g : Followed) × (followed_from memory w (k ∷ ks) ≡ Some g) × ((x : ℕ) → Contains g.pointers x → (y : ℕ) × Contains f.pointers y × (bounds_of y ≡ bounds_of x))
+  abbrev Behind : ℕ → ℕ → List ℕ → PathPointers → Type 0
+  Behind w k ks f = (g : PathPointers) × (followed_from memory w (k ∷ ks) ≡ Some g) × ((x : ℕ) → Contains g.pointers x → (y : ℕ) × Contains f.pointers y × (bounds_of y ≡ bounds_of x))
       × (g.last ≡ f.last)
 
   -- the same loads from a pointer that was moved, the first of them by as much less
-  moved_loads : (last j a : ℕ) (ks : List ℕ) (w : ℕ) (f : Followed) → w ≡ moved_by last (pos j) → followed_from memory last (moved_offset j a ∷ ks) ≡ Some f →
-      (g : Followed) × (followed_from memory w (a ∷ ks) ≡ Some g) × ((x : ℕ) → Contains g.pointers x → (y : ℕ) × Contains f.pointers y × (bounds_of y ≡ bounds_of x))
+  moved_loads : (last j a : ℕ) (ks : List ℕ) (w : ℕ) (f : PathPointers) → w ≡ moved_by last (pos j) → followed_from memory last (moved_offset j a ∷ ks) ≡ Some f →
+      (g : PathPointers) × (followed_from memory w (a ∷ ks) ≡ Some g) × ((x : ℕ) → Contains g.pointers x → (y : ℕ) × Contains f.pointers y × (bounds_of y ≡ bounds_of x))
       × (g.last ≡ f.last)
   moved_loads last j a ks w f m e =
       let l : LoadsFirst memory last (moved_offset j a) ks f = loads_first memory last (moved_offset j a) ks f e in
@@ -173,7 +173,7 @@ module _ (p : NumberedProgram) (registers : ℕ → Option ℕ) (memory : ByteRa
       → composed q a.path.loads ≡ Some b.path → b.writes ≡ a.writes → a.path.root ≡ root.Register r → params r ≡ Some w → Leads p params memory xs a
   argument_leads a b q w r params l h e kind rooted_at at = go a.path.loads refl e
     where
-      follows : (f : Followed) (ls : Loads) → a.path.loads ≡ ls → followed_from memory w (offsets_of ls) ≡ Some f → followed.followed p params memory a.path ≡ Some f
+      follows : (f : PathPointers) (ls : Loads) → a.path.loads ≡ ls → followed_from memory w (offsets_of ls) ≡ Some f → followed.followed p params memory a.path ≡ Some f
       follows f ls t v =
           ap (λ (z : Root). option_and_then (λ word. followed_from memory word (offsets_of a.path.loads)) (root_value p params z)) rooted_at
           ∙ root_follows memory (offsets_of a.path.loads) (params r) w at
@@ -195,7 +195,7 @@ module _ (p : NumberedProgram) (registers : ℕ → Option ℕ) (memory : ByteRa
           }
 
       -- from the pointers that follow the argument's path
-      finish : (k : ℕ) (ks : List ℕ) (ls : Loads) → a.path.loads ≡ ls → offsets_of ls ≡ k ∷ ks → (second : Followed)
+      finish : (k : ℕ) (ks : List ℕ) (ls : Loads) → a.path.loads ≡ ls → offsets_of ls ≡ k ∷ ks → (second : PathPointers)
           → ((x : ℕ) → Contains second.pointers x → IsLoaded xs (bounds_of x)) → l.at.last ≡ second.last → Behind w k ks second → Leads p params memory xs a
       finish k ks ls t s second loaded e g = record {
         at = g.0;

@@ -17,8 +17,8 @@ use Rattle.pg_region_paths.specs.declared.path.Root.TheVariants as root
 use Rattle.pg_region_paths.specs.declared.path.RootPath.{RootPath}
 use Rattle.pg_region_paths.specs.declared.path.Path.{Path}
 use Rattle.pg_region_paths.specs.Paths.{composed, rooted}
-use Rattle.pg_region_paths.specs.Followed as followed
-use Rattle.pg_region_paths.specs.Followed.{Followed, followed_from, root_value}
+use Rattle.pg_region_paths.specs.FollowedPaths as followed
+use Rattle.pg_region_paths.specs.FollowedPaths.{PathPointers, followed_from, root_value}
 use Rattle.pg_region_paths.specs.Registers.{value_path}
 use Rattle.pg_region_accesses.specs.declared.rooted.Rooted.{Rooted}
 use Rattle.pg_region_accesses.specs.Accesses.{RootedList, with_path, behind_path, behind_argument, called_access, called_accesses, sets, set_accesses}

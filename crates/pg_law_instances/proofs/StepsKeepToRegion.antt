@@ -11,7 +11,7 @@ use Rattle.pg_ir.specs.declared.instr.Op.{Op}
 use Rattle.pg_ir.specs.declared.instr.Op.TheVariants as op
 use Rattle.pg_ir.specs.Program.{NumberedProgram, function_of}
 use Rattle.pg_ir.specs.WellFormed.{IsProgram}
-use Rattle.pg_region_paths.specs.Followed.{followed}
+use Rattle.pg_region_paths.specs.FollowedPaths.{followed}
 use Rattle.pg_region_accesses.specs.Accesses.{RootedList, op_accesses}
 use Rattle.pg_region_paths.proofs.Elements.{none_in}
 use Rattle.pg_region_summaries.specs.Blocks.{blocks_of}

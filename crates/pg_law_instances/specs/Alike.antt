@@ -8,7 +8,7 @@ use Rattle.pg_ir.specs.Program.{NumberedProgram, function_of}
 use Rattle.pg_ir.specs.WellFormed.{IsProgram}
 use Rattle.pg_region_paths.specs.declared.path.Loads.TheVariants.{Never}
 use Rattle.pg_region_paths.specs.declared.path.RootPath.{RootPath}
-use Rattle.pg_region_paths.specs.Followed.{Followed, followed, root_value}
+use Rattle.pg_region_paths.specs.FollowedPaths.{PathPointers, followed, root_value}
 use Rattle.pg_region_accesses.specs.declared.rooted.Rooted.{Rooted}
 use Rattle.pg_region_accesses.specs.Accesses.{RootedList}
 use Rattle.pg_region_summaries.specs.Summaries.{AreSummaries}
@@ -33,7 +33,7 @@ pub record IsAlike (p : NumberedProgram) (m : Moment) (registers : ℕ → Optio
   pub is_word : root_value p registers path.root ≡ Some word
   pub bounds : (w : ℕ) → root_value p (recorded_registers m) path.root ≡ Some w → bounds_of word ≡ bounds_of w
   pub same : (w : ℕ) → root_value p (recorded_registers m) path.root ≡ Some w → (path.loads ≡ Never → ⊥) → word ≡ w
-  pub cells : (at : Followed) → followed p (recorded_registers m) (number_in m) path ≡ Some at → (c : ByteRange) → Contains at.cells c → memory c ≡ number_in m c
+  pub cells : (at : PathPointers) → followed p (recorded_registers m) (number_in m) path ≡ Some at → (c : ByteRange) → Contains at.cells c → memory c ≡ number_in m c
 
 -- a thread in state l, in frame f on lower frames, stands at the branch x with this region, which was recorded as freeable; and
 -- in s its paths are alike

@@ -4,7 +4,7 @@ use Rattle.pg_run_memory.specs.Memory.{read}
 use Rattle.pg_ir.specs.declared.ids.InstrId.{InstrId}
 use Rattle.pg_ir.specs.declared.instr.Instr.{Instr}
 use Rattle.pg_ir.specs.Program.{NumberedProgram}
-use Rattle.pg_region_paths.specs.Followed.{Followed, followed}
+use Rattle.pg_region_paths.specs.FollowedPaths.{PathPointers, followed}
 use Rattle.pg_region_accesses.specs.declared.rooted.Rooted.{Rooted}
 use Rattle.pg_region_accesses.specs.Accesses.{RootedList}
 use Rattle.pg_region.specs.declared.region.Region.{Region}
@@ -38,7 +38,7 @@ pub record GoesOnInside (I : Instance) (gated : List InstrId) (input : List ℤ)
 -- at a branch the region's accesses lead from here to recorded bounds of accesses of their kind; and in the branch's frame of
 -- the instance the inner region lies in the outer one, and its join is the outer one's or lies there too
 pub record LiesWithin (outer inner : Region) (I : Instance) (s : State) (frame : Frame) (below : List Frame) : Type 0 where
-  pub leads : (a : Rooted) (at : Followed) → Contains inner.accesses.items a → followed I.program (registers_by frame.registers) (read s.memory) a.path ≡ Some at →
+  pub leads : (a : Rooted) (at : PathPointers) → Contains inner.accesses.items a → followed I.program (registers_by frame.registers) (read s.memory) a.path ≡ Some at →
       LeadsTo I.recorded a.writes (bounds_of at.last)
   pub nested : length below ≡ length I.lower → AreNested outer inner
 

@@ -6,7 +6,7 @@ use Rattle.pg_num.specs.declared.layout.TheConstants.{MEMORY_BYTES}
 use Rattle.pg_ir.specs.Program.{NumberedProgram}
 use Rattle.pg_region_paths.specs.declared.path.Path.{Path}
 use Rattle.pg_region_paths.specs.Paths.{root_path_of}
-use Rattle.pg_region_paths.specs.Followed.{Followed, followed}
+use Rattle.pg_region_paths.specs.FollowedPaths.{PathPointers, followed}
 use Rattle.pg_region_accesses.specs.declared.rooted.Rooted.{Rooted}
 use Rattle.pg_slice_replay.specs.pg_slice_rules.Freeable.{FreeAccess, bounds_of}
 
@@ -37,7 +37,7 @@ pub record IsWithin (r bounds : ByteRange) : Type 0 where
 -- followed from these registers and in this memory, the path of an access loads from recorded bounds alone and leads to the
 -- recorded bounds of an access of its kind
 pub record Leads (p : NumberedProgram) (registers : ℕ → Option ℕ) (memory : ByteRange → ℕ) (xs : List FreeAccess) (a : Rooted) : Type 0 where
-  pub at : Followed
+  pub at : PathPointers
   pub is : followed p registers memory a.path ≡ Some at
   pub loads : (w : ℕ) → Contains at.pointers w → IsLoaded xs (bounds_of w)
   pub last : IsReached xs a.writes (bounds_of at.last)
@@ -49,7 +49,7 @@ IsMoved last None w = bounds_of w ≡ bounds_of last
 
 -- a number is what its path says, followed from these registers and in this memory, if it loads from recorded bounds alone
 pub record HasPath (p : NumberedProgram) (registers : ℕ → Option ℕ) (memory : ByteRange → ℕ) (xs : List FreeAccess) (q : Path) (w : ℕ) : Type 0 where
-  pub value : (at : Followed) → followed p registers memory (root_path_of q) ≡ Some at → ((v : ℕ) → Contains at.pointers v → IsLoaded xs (bounds_of v)) → IsMoved at.last q.added w
+  pub value : (at : PathPointers) → followed p registers memory (root_path_of q) ≡ Some at → ((v : ℕ) → Contains at.pointers v → IsLoaded xs (bounds_of v)) → IsMoved at.last q.added w
 
 -- places in the bounds from which recorded paths load hold the numbers that they held in another memory
 pub record KeepsCells (xs : List FreeAccess) (before memory : ByteRange → ℕ) : Type 0 where

@@ -14,7 +14,7 @@ use Rattle.pg_run_memory.specs.Bytes.{number_of}
 use Rattle.pg_precondition.specs.Values.{with_one}
 use Rattle.pg_region_paths.specs.declared.path.Root.{Root}
 use Rattle.pg_region_paths.specs.declared.path.Root.TheVariants as root
-use Rattle.pg_region_paths.specs.Followed.{Followed, behind, cell_at, cell_in, followed, followed_from, root_value}
+use Rattle.pg_region_paths.specs.FollowedPaths.{PathPointers, behind, cell_at, cell_in, followed, followed_from, root_value}
 use Rattle.pg_region_paths.specs.Paths.{offsets_of}
 use Rattle.pg_run.proofs.ActionPlaces.{place_is}
 use Rattle.pg_slice_rules.specs.Freeable.{BranchRegion, FreeAccess, FreeRegion, RegionAccess, Regions, accesses_at, if_apart, one_access, region_at, registers_by, stores_on}
@@ -46,7 +46,7 @@ unfolding IsFollowed
 accesses_follow p m [] xs e = let q : [] ≡ xs = cc in subst (AllOf (IsFollowed p m)) q tt
 accesses_follow p m (a ∷ rest) xs e = go (followed p (registers_by (registers_in m.calls)) (number_in m) a.path) refl (accesses_at p m rest) refl e (λ ys q. accesses_follow p m rest ys q)
   where
-    go : (f : Option Followed) → followed p (registers_by (registers_in m.calls)) (number_in m) a.path ≡ f → (o : Option (List FreeAccess)) → accesses_at p m rest ≡ o
+    go : (f : Option PathPointers) → followed p (registers_by (registers_in m.calls)) (number_in m) a.path ≡ f → (o : Option (List FreeAccess)) → accesses_at p m rest ≡ o
         → one_access a f o ≡ Some xs →
         ((ys : List FreeAccess) → accesses_at p m rest ≡ Some ys → AllOf (IsFollowed p m) ys) → AllOf (IsFollowed p m) xs
     go None q o r e more = absurd cc
@@ -99,28 +99,28 @@ module _ (input : List ℤ) where
     abbrev memory : ByteRange → ℕ
     memory r = number_of m r.start r.bytes
 
-    path_given : (offsets : List ℕ) (word : ℕ) (s : Symbolic) (at : Followed) → IsLike input s (Some word)
+    path_given : (offsets : List ℕ) (word : ℕ) (s : Symbolic) (at : PathPointers) → IsLike input s (Some word)
         → followed_from (λ (r : ByteRange). number_of m r.start r.bytes) word offsets ≡ Some at →
         AllOf (IsGiven input) (path_needs bytes s offsets at.pointers at.cells at.last)
     path_given [] word s at h e =
         let q : record { pointers = []; cells = []; last = word } ≡ at = cc in
-        subst (λ (a : Followed). AllOf (IsGiven input) (path_needs bytes s [] a.pointers a.cells a.last)) q ((word, h, refl), tt)
+        subst (λ (a : PathPointers). AllOf (IsGiven input) (path_needs bytes s [] a.pointers a.cells a.last)) q ((word, h, refl), tt)
     path_given (k ∷ ks) word s at h e = go (cell_at word k) refl e (λ cell f r. path_given ks (number_of m cell.start cell.bytes) (loaded bytes cell.start 8) f r)
       where
         go : (o : Option ByteRange) → cell_at word k ≡ o → option_and_then
             (λ cell. behind word cell (followed_from (λ (r : ByteRange). number_of m r.start r.bytes) (number_of m cell.start cell.bytes) ks)) o ≡ Some at →
-            ((cell : ByteRange) (f : Followed) → IsLike input (loaded bytes cell.start 8) (Some (number_of m cell.start cell.bytes))
+            ((cell : ByteRange) (f : PathPointers) → IsLike input (loaded bytes cell.start 8) (Some (number_of m cell.start cell.bytes))
             → followed_from (λ (r : ByteRange). number_of m r.start r.bytes) (number_of m cell.start cell.bytes) ks ≡ Some f →
             AllOf (IsGiven input) (path_needs bytes (loaded bytes cell.start 8) ks f.pointers f.cells f.last)) → AllOf (IsGiven input) (path_needs bytes s (k ∷ ks) at.pointers at.cells at.last)
         go None q e more = absurd cc
         go (Some cell) q e more = on (followed_from (λ (r : ByteRange). number_of m r.start r.bytes) (number_of m cell.start cell.bytes) ks) refl e
           where
-            on : (f : Option Followed) → followed_from (λ (r : ByteRange). number_of m r.start r.bytes) (number_of m cell.start cell.bytes) ks ≡ f → behind word cell f ≡ Some at
+            on : (f : Option PathPointers) → followed_from (λ (r : ByteRange). number_of m r.start r.bytes) (number_of m cell.start cell.bytes) ks ≡ f → behind word cell f ≡ Some at
                 → AllOf (IsGiven input) (path_needs bytes s (k ∷ ks) at.pointers at.cells at.last)
             on None r e = absurd cc
             on (Some f) r e =
                 let same : record { pointers = word ∷ f.pointers; cells = cell ∷ f.cells; last = f.last } ≡ at = cc in
-                subst (λ (a : Followed). AllOf (IsGiven input) (path_needs bytes s (k ∷ ks) a.pointers a.cells a.last)) same (
+                subst (λ (a : PathPointers). AllOf (IsGiven input) (path_needs bytes s (k ∷ ks) a.pointers a.cells a.last)) same (
                   (moved_by word (pos k), moved_given k s word h, (Rattle.std.proofs.lemmas.Bool.eq-eqb (moved_by word (pos k)) (moved_by word (pos k)) refl, tt)),
                   more cell f (cell_given word k cell q) r,
                 )

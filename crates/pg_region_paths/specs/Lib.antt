@@ -1,6 +1,6 @@
 pub mod Paths
 pub mod Registers
-pub mod Followed
+pub mod FollowedPaths
 pub mod RootPaths
 pub mod Fits
 pub mod Relation

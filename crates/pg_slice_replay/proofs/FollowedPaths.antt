@@ -7,7 +7,7 @@ use Rattle.std.proofs.lemmas.List.{length-append}
 use Rattle.pg_num.specs.Places.{ByteRange}
 use Rattle.pg_ir.specs.Program.{NumberedProgram}
 use Rattle.pg_law_effects.specs.pg_run.State.{State}
-use Rattle.pg_region_paths.specs.Followed.{Followed, behind, cell_at, followed_from}
+use Rattle.pg_region_paths.specs.FollowedPaths.{PathPointers, behind, cell_at, followed_from}
 use Rattle.pg_region_paths.specs.Paths.{offsets_of}
 use Rattle.pg_region_accesses.specs.declared.rooted.Rooted.{Rooted}
 use Rattle.pg_slice_rules.specs.Freeable.{FreeAccess, one_access}
@@ -18,12 +18,12 @@ use Rattle.pg_slice_replay.specs.Paths.{Added, Adds, IsLoaded, access_at, access
 -- ---- the loads of a path
 
 -- pointers that were passed, each with its cell
-abbrev pub all_behind : List ℕ → List ℕ → Option Followed → Option Followed
+abbrev pub all_behind : List ℕ → List ℕ → Option PathPointers → Option PathPointers
 all_behind [] ks f = f
 all_behind (w ∷ ws) [] f = f
 all_behind (w ∷ ws) (k ∷ ks) f = behind w (cell_of w k) (all_behind ws ks f)
 
-behind_last : (ws ks : List ℕ) (w k : ℕ) (f : Option Followed) → length ws ≡ length ks → all_behind (ws ++ w ∷ []) (ks ++ k ∷ []) f ≡ all_behind ws ks (behind w (cell_of w k) f)
+behind_last : (ws ks : List ℕ) (w k : ℕ) (f : Option PathPointers) → length ws ≡ length ks → all_behind (ws ++ w ∷ []) (ks ++ k ∷ []) f ≡ all_behind ws ks (behind w (cell_of w k) f)
 behind_last [] [] w k f e = refl
 behind_last [] (l ∷ ks) w k f e = absurd (omega (arith, e))
 behind_last (v ∷ ws) [] w k f e = absurd (omega (arith, e))
@@ -125,13 +125,13 @@ module _ (p : NumberedProgram) (s : State) (t : ℕ) where
   given_last : (us : List Rooted) (a : Rooted) (xs : List At) (x : At) → length xs ≡ length us → accesses_in p s t us ≡ Some (accesses_with us xs)
       → followed_in p s t a.path ≡ Some (along (offsets_of a.path.loads) x) →
       accesses_in p s t (us ++ a ∷ []) ≡ Some (accesses_with (us ++ a ∷ []) (xs ++ x ∷ []))
-  given_last [] a [] x c h f = ap (λ (o : Option Followed). one_access (free_access a) o (Some [])) f
+  given_last [] a [] x c h f = ap (λ (o : Option PathPointers). one_access (free_access a) o (Some [])) f
   given_last [] a (y ∷ xs) x c h f = absurd (omega (arith, c))
   given_last (b ∷ us) a [] x c h f = absurd (omega (arith, c))
   given_last (b ∷ us) a (y ∷ xs) x c h f = go (λ q. given_last us a xs x (omega (arith, c)) q f) (followed_in p s t b.path) (accesses_in p s t us) refl refl h
     where
       go : (accesses_in p s t us ≡ Some (accesses_with us xs) → accesses_in p s t (us ++ a ∷ []) ≡ Some (accesses_with (us ++ a ∷ []) (xs ++ x ∷ [])))
-          → (o : Option Followed) (u : Option (List FreeAccess)) → followed_in p s t b.path ≡ o → accesses_in p s t us ≡ u
+          → (o : Option PathPointers) (u : Option (List FreeAccess)) → followed_in p s t b.path ≡ o → accesses_in p s t us ≡ u
           → one_access (free_access b) o u ≡ Some (access_at b y ∷ accesses_with us xs) →
           one_access (free_access b) (followed_in p s t b.path) (accesses_in p s t (us ++ a ∷ [])) ≡ Some (access_at b y ∷ accesses_with (us ++ a ∷ []) (xs ++ x ∷ []))
       go more None u e q k = absurd (none_some k)
@@ -146,7 +146,7 @@ module _ (p : NumberedProgram) (s : State) (t : ℕ) where
           let cons : record { writes = b.writes; path = b.path; at = g } ∷ vs ≡ access_at b y ∷ accesses_with us xs = some_same k in
           let tail : vs ≡ accesses_with us xs = ap tail_of cons in
           let rest = more (q ∙ ap Some tail) in
-          ap (λ (o : Option Followed). one_access (free_access b) o (accesses_in p s t (us ++ a ∷ []))) e
+          ap (λ (o : Option PathPointers). one_access (free_access b) o (accesses_in p s t (us ++ a ∷ []))) e
           ∙ ap (one_access (free_access b) (Some g)) rest
           ∙ ap (λ (z : FreeAccess). Some (z ∷ accesses_with (us ++ a ∷ []) (xs ++ x ∷ []))) (head_same cons)
         where
@@ -167,20 +167,20 @@ module _ (p : NumberedProgram) (s : State) (t : ℕ) where
       some_none k = cc
   none_front (a ∷ us) bs h = go (λ q. none_front us bs q) (followed_in p s t a.path) (accesses_in p s t us) refl refl h
     where
-      go : (accesses_in p s t us ≡ None → accesses_in p s t (us ++ bs) ≡ None) → (o : Option Followed) (u : Option (List FreeAccess)) → followed_in p s t a.path ≡ o
+      go : (accesses_in p s t us ≡ None → accesses_in p s t (us ++ bs) ≡ None) → (o : Option PathPointers) (u : Option (List FreeAccess)) → followed_in p s t a.path ≡ o
           → accesses_in p s t us ≡ u → one_access (free_access a) o u ≡ None → one_access (free_access a) (followed_in p s t a.path) (accesses_in p s t (us ++ bs)) ≡ None
-      go more None u e q k = ap (λ (o : Option Followed). one_access (free_access a) o (accesses_in p s t (us ++ bs))) e
-      go more (Some g) None e q k = ap (one_access (free_access a) (followed_in p s t a.path)) (more q) ∙ ap (λ (o : Option Followed). one_access (free_access a) o None) e
+      go more None u e q k = ap (λ (o : Option PathPointers). one_access (free_access a) o (accesses_in p s t (us ++ bs))) e
+      go more (Some g) None e q k = ap (one_access (free_access a) (followed_in p s t a.path)) (more q) ∙ ap (λ (o : Option PathPointers). one_access (free_access a) o None) e
       go more (Some g) (Some vs) e q k = absurd (some_none k)
         where
           some_none : Path (Option (List FreeAccess)) (Some (record { writes = a.writes; path = a.path; at = g } ∷ vs)) None → ⊥
           some_none k = cc
 
   none_last : (us : List Rooted) (a : Rooted) → followed_in p s t a.path ≡ None → accesses_in p s t (us ++ a ∷ []) ≡ None
-  none_last [] a f = ap (λ (o : Option Followed). one_access (free_access a) o (Some [])) f
+  none_last [] a f = ap (λ (o : Option PathPointers). one_access (free_access a) o (Some [])) f
   none_last (b ∷ us) a f = ap (one_access (free_access b) (followed_in p s t b.path)) (none_last us a f) ∙ go (followed_in p s t b.path)
     where
-      go : (o : Option Followed) → one_access (free_access b) o None ≡ None
+      go : (o : Option PathPointers) → one_access (free_access b) o None ≡ None
       go None = refl
       go (Some g) = refl
 

@@ -7,7 +7,7 @@ use Rattle.pg_law_effects.specs.pg_run.State.{State}
 use Rattle.pg_run_memory.specs.Memory.{read}
 use Rattle.pg_law_effects.specs.pg_run.Readers.{register_of}
 use Rattle.pg_region_paths.specs.declared.path.RootPath.{RootPath}
-use Rattle.pg_region_paths.specs.Followed.{followed_from, root_value}
+use Rattle.pg_region_paths.specs.FollowedPaths.{followed_from, root_value}
 use Rattle.pg_region_paths.specs.Paths.{offsets_of}
 use Rattle.pg_region_accesses.specs.declared.rooted.Rooted.{Rooted}
 use Rattle.pg_slice_rules.specs.Freeable.{FreeAccess, stores_on}

@@ -8,7 +8,7 @@ use Rattle.pg_run_memory.specs.Memory.{byte_at, read}
 use Rattle.pg_law_threads.specs.Intervals.{Timed, did_of, owners}
 use Rattle.pg_law_threads.proofs.TimedSteps.{did_times}
 use Rattle.pg_region_paths.specs.declared.path.RootPath.{RootPath}
-use Rattle.pg_region_paths.specs.Followed.{Followed, followed}
+use Rattle.pg_region_paths.specs.FollowedPaths.{PathPointers, followed}
 use Rattle.pg_region_accesses.specs.declared.rooted.Rooted.{Rooted}
 use Rattle.pg_region_accesses.specs.Accesses.{RootedList}
 use Rattle.pg_run_thread.specs.LocalState.{Frame, LocalState}
@@ -54,7 +54,7 @@ path_same p s x path = ap (λ (rs : List (Option ℕ)). followed p (λ r. flat (
 accesses_same : (p : NumberedProgram) (s : State) (x : Step) (us : List Rooted) → accesses_at p (moment_in s x) (map free_access us) ≡ accesses_in p s x.thread.0 us
 accesses_same p s x [] = refl
 accesses_same p s x (a ∷ us) =
-    ap (λ (o : Option Followed). one_access (free_access a) o (accesses_at p (moment_in s x) (map free_access us))) (path_same p s x a.path)
+    ap (λ (o : Option PathPointers). one_access (free_access a) o (accesses_at p (moment_in s x) (map free_access us))) (path_same p s x a.path)
     ∙ ap (λ (o : Option (List FreeAccess)). one_access (free_access a) (followed_in p s x.thread.0 a.path) o) (accesses_same p s x us)
 
 apart_same : (r : FoundRegion) (o : Option (List FreeAccess)) → if_apart (kept_region r) o ≡ option_map (region_with r) (apart o)

@@ -5,7 +5,7 @@ use Rattle.pg_num.specs.Pointers.{byte_place, moved_by}
 use Rattle.pg_ir.specs.Program.{NumberedProgram}
 use Rattle.pg_run_memory.specs.Memory.{read}
 use Rattle.pg_region_paths.specs.declared.path.RootPath.{RootPath}
-use Rattle.pg_region_paths.specs.Followed.{Followed, cell_at, followed}
+use Rattle.pg_region_paths.specs.FollowedPaths.{PathPointers, cell_at, followed}
 use Rattle.pg_region_paths.specs.Paths.{offsets_of}
 use Rattle.pg_region_accesses.specs.declared.rooted.Rooted.{Rooted}
 use Rattle.pg_law_effects.specs.pg_run.Readers.{register_of}
@@ -30,7 +30,7 @@ cells_of (w ∷ ws) [] = []
 cells_of (w ∷ ws) (k ∷ ks) = cell_of w k ∷ cells_of ws ks
 
 -- a path with loads at these offsets, as it was followed
-abbrev pub along : List ℕ → At → Followed
+abbrev pub along : List ℕ → At → PathPointers
 along ks a = record { pointers = take (length ks) a.pointers; cells = cells_of (take (length ks) a.pointers) ks; last = a.last }
 
 -- an access of a region with its path as it was followed
@@ -44,7 +44,7 @@ accesses_with (a ∷ us) [] = []
 accesses_with (a ∷ us) (x ∷ xs) = access_at a x ∷ accesses_with us xs
 
 -- a path followed by a thread's registers and by memory
-abbrev pub followed_in : NumberedProgram → State → ℕ → RootPath → Option Followed
+abbrev pub followed_in : NumberedProgram → State → ℕ → RootPath → Option PathPointers
 followed_in p s t path = followed p (register_of s t) (read s.memory) path
 
 -- each access with its path, if each path can be followed

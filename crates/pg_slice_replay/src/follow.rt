@@ -3,7 +3,7 @@
 ghost use Rattle.std.specs.Prelude.{◌≡◌, ◌≤◌, ◌<◌, [], length, take, option_map, pos, true, Some, None, IfOk};
 ghost use Rattle.pg_num.specs.Pointers.{moved_by};
 ghost use Rattle.pg_run_memory.specs.Memory.{read};
-ghost use Rattle.pg_region_paths.specs.Followed.{followed_from, root_value};
+ghost use Rattle.pg_region_paths.specs.FollowedPaths.{followed_from, root_value};
 ghost use Rattle.pg_region_paths.specs.Paths.{offsets_of};
 ghost use Rattle.pg_law_effects.specs.pg_run.Readers.{register_of};
 ghost use Rattle.pg_slice_replay.specs.Paths.{Adds, IsLoaded, accesses_in, accesses_with, along, cell_of, followed_in};

@@ -5,7 +5,7 @@ use Rattle.pg_precondition.specs.pg_num.Places.{ByteRange}
 use Rattle.pg_precondition.specs.pg_num.Pointers.{pointer_of}
 use Rattle.pg_region_paths.specs.pg_ir.Program.{NumberedProgram}
 use Rattle.pg_region_paths.specs.declared.path.RootPath.{RootPath}
-use Rattle.pg_region_paths.specs.Followed.{Followed, followed}
+use Rattle.pg_region_paths.specs.FollowedPaths.{PathPointers, followed}
 use Rattle.pg_run.specs.pg_run_thread.Operands as operands
 use Rattle.pg_run.specs.pg_run_trace.Races.{share}
 use Rattle.pg_slice_rules.specs.Moments.{Moment, number_in, registers_in}
@@ -40,7 +40,7 @@ Regions = ℕ → Option BranchRegion
 pub record FreeAccess : Type 0 where
   pub writes : Bool
   pub path : RootPath
-  pub at : Followed
+  pub at : PathPointers
 
 pub record FreeRegion : Type 0 where
   pub join : ℕ
@@ -50,7 +50,7 @@ pub record FreeRegion : Type 0 where
 abbrev pub registers_by : List (Option ℕ) → ℕ → Option ℕ
 registers_by rs r = operands.flat (slice_get rs r)
 
-abbrev pub one_access : RegionAccess → Option Followed → Option (List FreeAccess) → Option (List FreeAccess)
+abbrev pub one_access : RegionAccess → Option PathPointers → Option (List FreeAccess) → Option (List FreeAccess)
 one_access a None xs = None
 one_access a (Some f) None = None
 one_access a (Some f) (Some xs) = Some (record { writes = a.writes; path = a.path; at = f } ∷ xs)

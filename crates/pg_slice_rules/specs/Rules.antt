@@ -15,7 +15,7 @@ use Rattle.pg_precondition.specs.declared.check.Test.TheVariants as test
 use Rattle.pg_precondition.specs.Values.{with_one}
 use Rattle.pg_region_paths.specs.declared.path.Root.{Root}
 use Rattle.pg_region_paths.specs.declared.path.Root.TheVariants as root
-use Rattle.pg_region_paths.specs.Followed.{root_value}
+use Rattle.pg_region_paths.specs.FollowedPaths.{root_value}
 use Rattle.pg_region_paths.specs.Paths.{offsets_of}
 use Rattle.pg_run.specs.pg_run_trace.declared.turn.TurnKind.{TurnKind}
 use Rattle.pg_run.specs.pg_run_trace.declared.turn.TurnKind.TheVariants as turns

@@ -26,22 +26,22 @@ abbrev pub cell_at : ℕ → ℕ → Option ByteRange
 cell_at word k = cell_in (place_of (moved_by word (pos k)) 8)
 
 -- a path that was followed: the pointers from which its loads read, each with its cell, and the last pointer
-pub record Followed : Type 0 where
+pub record PathPointers : Type 0 where
   pub pointers : List ℕ
   pub cells : List ByteRange
   pub last : ℕ
 
-abbrev pub behind : ℕ → ByteRange → Option Followed → Option Followed
+abbrev pub behind : ℕ → ByteRange → Option PathPointers → Option PathPointers
 behind word cell None = None
 behind word cell (Some f) = Some (record { pointers = word ∷ f.pointers; cells = cell ∷ f.cells; last = f.last })
 
 -- the loads from a pointer, none of which traps
-abbrev pub followed_from : (ByteRange → ℕ) → ℕ → List ℕ → Option Followed
+abbrev pub followed_from : (ByteRange → ℕ) → ℕ → List ℕ → Option PathPointers
 followed_from memory word [] = Some (record { pointers = []; cells = []; last = word })
 followed_from memory word (k ∷ ks) = option_and_then (λ cell. behind word cell (followed_from memory (memory cell) ks)) (cell_at word k)
 
 -- a root path, followed in memory as it is
-abbrev pub followed : NumberedProgram → (ℕ → Option ℕ) → (ByteRange → ℕ) → RootPath → Option Followed
+abbrev pub followed : NumberedProgram → (ℕ → Option ℕ) → (ByteRange → ℕ) → RootPath → Option PathPointers
 followed p registers memory path = option_and_then (λ word. followed_from memory word (offsets_of path.loads)) (root_value p registers path.root)
 
 -- the bytes within a pointer's bounds, from its start on
