@@ -1,5 +1,5 @@
 -- How many of the first steps are turns.
-use Rattle.std.proofs.Common.{◌≡◌, ◌+◌, ◌==◌, ℕ, List, [], ◌∷◌, length, length-append, map, take, Bool, true, false, Option, Some, None, ap, refl, sym, ◌∙◌}
+use Rattle.std.proofs.Common.{◌≡◌, ◌+◌, ◌==◌, ℕ, List, [], ◌∷◌, length, length-append, map, take, Bool, true, false, Option, Some, None, ap, ap₂, refl, sym, ◌∙◌}
 use Rattle.std.specs.Prelude.{slice_get, is_some}
 use Rattle.pg_ir.specs.declared.ids.InstrId.{InstrId}
 use Rattle.std.specs.List.{list_all}
@@ -11,6 +11,11 @@ use Rattle.pg_session_book.specs.pg_run_trace.declared.step.StepKind.{StepKind}
 use Rattle.pg_session_book.specs.pg_run_trace.declared.step.StepKind.TheVariants as kinds
 use Rattle.pg_session_book.specs.pg_run_trace.declared.turn.Race.{Race}
 use Rattle.pg_session_book.specs.pg_run_trace.declared.turn.Turn.{Turn}
+use Rattle.pg_session_book.specs.pg_run.declared.outcome.Outcome.{Outcome}
+use Rattle.pg_session_book.specs.pg_run.declared.outcome.Outcome.TheVariants.{Refused}
+use Rattle.pg_session_book.specs.pg_run.declared.outcome.Refusal.{Refusal}
+use Rattle.pg_session_book.specs.pg_run.declared.outcome.Refusal.TheVariants as refusals
+use Rattle.pg_commands.specs.EndLines.{end_line, line_of}
 use Rattle.pg_session_book.specs.pg_run_trace.Races.{is_one_of, kind_gated, schedule_of, with_gated}
 use Rattle.pg_session_book.specs.pg_run_trace.Steps.{event_of, events, happening_in, turn_at}
 
@@ -39,3 +44,12 @@ pub is_turn_at : (gated : List InstrId) (x : Step) (a : Access) → x.kind ≡ k
 is_turn_at gated x a k =
     let b = is_one_of gated x.instr.0 in
     sym (ap (λ (kind : StepKind). is_some (turn_at (with_gated gated x) (happening_in (kind_gated b kind)))) k ∙ is_gated (with_gated gated x) b a)
+
+-- the end line of a run of main alone, by how many of its steps are events
+pub line_alone : (xs : List Step) (e f : Outcome) (n : ℕ) → e ≡ f → list_all (λ (x : Step). x.thread.0 == 0) xs ≡ true → n ≡ length (events (map (with_gated []) xs)) → line_of e n ≡ end_line xs f
+line_alone xs e f n s alone c = ap₂ line_of s (of_main xs n alone c)
+
+-- the end line of a run that was refused has no turns
+pub line_refused : (xs : List Step) (r : Refusal) (n : ℕ) → line_of (Refused r) n ≡ end_line xs (Refused r)
+line_refused xs (refusals.Trap name id) n = refl
+line_refused xs refusals.Budget n = refl

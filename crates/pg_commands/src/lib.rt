@@ -9,6 +9,7 @@ mod once;
 mod programs;
 mod refusals;
 mod replies;
+mod runs;
 mod saving;
 mod serve;
 mod session;

@@ -2,30 +2,21 @@
 ghost use Rattle.std.specs.Prelude.{◌≡◌, ◌≤◌, IfOk, string_bytes};
 ghost use Rattle.pg_num.specs.declared.limits.TheConstants.{QUANTUM_LIMIT};
 ghost use Rattle.pg_session_book.specs.pg_law_runs.Cuts.{CanRun};
-ghost use Rattle.pg_commands.specs.EndLines.{end_line};
+ghost use Rattle.pg_commands.specs.EndLines.{line_of};
 ghost use Rattle.pg_commands.specs.Texts.{once_text};
 
 use crate::laws::the_guided_run_of_once_exits;
-use crate::turns::turn_count;
+use crate::runs::{Told, run_told};
 use pg_ir::Program;
-use pg_session_book::pg_run::{Outcome, Recorded, Refusal, rotate};
-use pg_session_book::pg_run_trace::Trace;
+use pg_session_book::pg_run::{Outcome, Refusal};
 use std::alloc::{AllocError, Global};
 
-/// The line that says how a run of a program with this trace ended.
-fn end_line(
-    alloc: Global,
-    program: &Program,
-    trace: &Trace,
-    end: Outcome,
-) -> Result<String, AllocError>
-    ensures { IfOk result (λ line. string_bytes line ≡ end_line trace.now.steps end) }
+/// The line that says how a run ended, with the number of its turns where it exited.
+fn line_of(alloc: Global, end: Outcome, turns: usize) -> Result<String, AllocError>
+    ensures { IfOk result (λ line. string_bytes line ≡ line_of end turns) }
 {
     match end {
-        Outcome::Exit(value) => {
-            let turns = turn_count(alloc, program, trace)?;
-            format!(in alloc; "exit {value} after {turns} turns\n")
-        }
+        Outcome::Exit(value) => format!(in alloc; "exit {value} after {turns} turns\n"),
         Outcome::Refused(Refusal::Trap(name, id)) => {
             let number = id.0;
             format!(in alloc; "trap {name} at {number}\n")
@@ -48,8 +39,8 @@ pub(crate) fn once_text(
     ensures { IfOk result (λ v. v.items ≡ once_text program.now quantum input.now) }
 {
     the_guided_run_of_once_exits();
-    let Recorded { trace, output, end } = rotate(alloc, program, input, quantum)?;
-    let line = end_line(alloc, program, &trace, end)?;
+    let Told { output, end, turns } = run_told(alloc, program, quantum, input)?;
+    let line = line_of(alloc, end, turns)?;
     let mut text = output;
     text.extend_from_slice(line.as_bytes())?;
     Ok(text)

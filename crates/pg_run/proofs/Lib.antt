@@ -1,4 +1,5 @@
 pub mod Actions
+pub mod AloneSteps
 pub mod StepsBegin
 pub mod Completed
 pub mod OwnersMayStep

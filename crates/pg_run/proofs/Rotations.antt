@@ -44,10 +44,10 @@ first_past f d n e h k = let j : n ≡ d = omega arith in rw j e
 
 -- ---- the run
 
-onto_onto : (a b : List Step) (r : RunResult) → onto a (onto b r) ≡ onto (a ++ b) r
+pub onto_onto : (a b : List Step) (r : RunResult) → onto a (onto b r) ≡ onto (a ++ b) r
 onto_onto a b r = ap (λ (ts : List Step). record r { trace = ts }) (sym (append_assoc a b r.trace))
 
-onto_stop : (a : List Step) (s : State) (e : Outcome) → onto a (stop s e) ≡ record { trace = a; state = s; end = e }
+pub onto_stop : (a : List Step) (s : State) (e : Outcome) → onto a (stop s e) ≡ record { trace = a; state = s; end = e }
 onto_stop a s e = ap (λ (ts : List Step). record { trace = ts; state = s; end = e }) (append-nil a)
 
 pub run_start : (p : NumberedProgram) (input : List ℤ) (q n : ℕ) (s t : State) (u : Share) (ts : List Step) → ts ≡ [] → s ≡ t
@@ -55,7 +55,7 @@ pub run_start : (p : NumberedProgram) (input : List ℤ) (q n : ℕ) (s t : Stat
 run_start p input q n s t u ts e h = let z : n - 0 ≡ n = omega arith in rw (e, h, z) refl
 
 -- a run that has a step left
-run_here : (p : NumberedProgram) (input : List ℤ) (q n i : ℕ) (s : State) (u : Share) (ts : List Step) (r : RunResult) → i < n → onto ts (run (n - i) p input q s u) ≡ r
+pub run_here : (p : NumberedProgram) (input : List ℤ) (q n i : ℕ) (s : State) (u : Share) (ts : List Step) (r : RunResult) → i < n → onto ts (run (n - i) p input q s u) ≡ r
     → onto ts (run (suc (n - (i + 1))) p input q s u) ≡ r
 run_here p input q n i s u ts r h e = let k : n - i ≡ suc (n - (i + 1)) = omega arith in rw k at e
 

@@ -1,3 +1,4 @@
+pub mod Alone
 pub mod Answer
 pub mod Bound
 pub mod Completed

@@ -3,6 +3,7 @@
 #![tactic(auto)]
 
 mod advance;
+mod alone;
 mod answer;
 mod gated;
 mod guided;
@@ -22,6 +23,7 @@ mod share;
 mod state;
 mod tell;
 
+pub use alone::{Counted, rotate_alone};
 pub use answer::number_at;
 pub use gated::{Gated, is_among};
 pub use guided::{Guided, guide};

@@ -99,7 +99,7 @@ pub(crate) fn record_step(
 
 /// Takes the next step of a thread that is ready, which is this action, or gives its trap and the instruction.
 /// Which accesses are events makes no difference to either.
-fn step_on(
+pub(crate) fn step_on(
     run: &Run,
     state: &mut MachineState,
     t: ThreadNo,

@@ -143,7 +143,7 @@ fn exit(state: &MachineState) -> Outcome
 
 /// Whose step is next, or the end that comes before it.
 #[tactic(auto, unfolding(crate::specs::Rotation::chosen))]
-fn choose(state: &MachineState, p: &Program, q: u32, u: Share) -> Result<Share, Outcome>
+pub(crate) fn choose(state: &MachineState, p: &Program, q: u32, u: Share) -> Result<Share, Outcome>
     requires of { IsMachine p.now state.now }
     requires some { 0 < q }
     ensures ready { IfOk result (λ v. ready p.now state.now v.thread.0 ≡ true) }
@@ -161,7 +161,13 @@ fn choose(state: &MachineState, p: &Program, q: u32, u: Share) -> Result<Share, 
 
 /// The end where no step is left.
 #[tactic(auto, unfolding(crate::specs::Rotation::run))]
-fn at_limit(state: &MachineState, p: &Program, input: &[i64], q: u32, u: Share) -> Outcome
+pub(crate) fn at_limit(
+    state: &MachineState,
+    p: &Program,
+    input: &[i64],
+    q: u32,
+    u: Share,
+) -> Outcome
     requires of { IsMachine p.now state.now }
     requires some { 0 < q }
     ensures { run_from 0 p.now input.now q state.now u ≡ stop state.now result }

@@ -68,6 +68,7 @@ impl Trace {
     }
 
     /// The step with this number, from 0 on.
+    #[inline(always)]
     pub fn step(&self, i: usize) -> Step
         requires { i < length self.now.steps }
         ensures { slice_get self.now.steps i ≡ Some result }
@@ -198,6 +199,7 @@ fn access_kind(writes: bool, event: bool) -> CellKind
 }
 
 /// An access of a cell.
+#[inline(always)]
 fn access_in(cell: &Cell, writes: bool, event: bool) -> StepKind
     ensures { result ≡ access_with cell.now writes event }
 {
@@ -211,6 +213,7 @@ fn access_in(cell: &Cell, writes: bool, event: bool) -> StepKind
 }
 
 /// What the step of a cell was, where these are the events of the trace.
+#[inline(always)]
 fn kind_in(events: &[Event], cell: &Cell) -> StepKind
     ensures { result ≡ kind_by events.now cell.now cell.now.kind }
 {
