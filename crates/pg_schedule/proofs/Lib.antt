@@ -3,6 +3,7 @@ pub mod StepPositions
 pub mod GreatestRanks
 pub mod NotedTouches
 pub mod TableWalk
+pub mod ByteBlocks
 pub mod AnsweredSteps
 pub mod LoopsSoFar
 pub mod UnorderedSearch

@@ -1,6 +1,5 @@
 -- What a table keeps of a byte.
-use Rattle.std.specs.Prelude.{◌≡◌, ℕ, ◌==◌, ◌&&◌, not, max, List, Bool, nat_eq, nat_lt, if◌then◌else◌}
-use Rattle.std.specs.Option.{unwrap_or}
+use Rattle.std.specs.Prelude.{◌≡◌, ℕ, ◌/◌, ◌%◌, ◌==◌, ◌&&◌, not, max, List, get_or, Bool, nat_eq, nat_lt, Option, Some, None, if◌then◌else◌}
 use Rattle.indexmap.specs.IndexMap.{get}
 use Rattle.pg_num.specs.Places.{ByteRange}
 use Rattle.pg_run_trace.specs.Races.{is_in}
@@ -14,9 +13,18 @@ use Rattle.pg_schedule.specs.declared.touch.Touch.{Touch}
 abbrev pub no_cell : Cell
 no_cell = record { all = no_best; writes = no_best }
 
--- the cell of a byte
+-- the cell at a place among these
+abbrev pub nth_cell : List Cell → ℕ → Cell
+nth_cell cells i = get_or cells i no_cell
+
+-- that of a block, which may not be there
+abbrev pub cell_in : Option (List Cell) → ℕ → Cell
+cell_in None i = no_cell
+cell_in (Some cells) i = nth_cell cells i
+
+-- the cell of a byte; eight bytes are a block
 abbrev pub cell_at : Table → ℕ → Cell
-cell_at t b = unwrap_or (get nat_eq t.cells b) no_cell
+cell_at t b = cell_in (get nat_eq t.blocks (b / 8)) (b % 8)
 
 -- a touch of another thread than u holds the byte of a range
 abbrev pub holds_in : ByteRange → ℕ → ℕ → Touch → Bool

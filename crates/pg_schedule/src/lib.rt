@@ -4,6 +4,7 @@
 #![tactic(auto)]
 
 mod answered;
+mod block;
 mod cell;
 mod fast;
 mod firsts;

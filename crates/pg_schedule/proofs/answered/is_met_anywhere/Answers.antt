@@ -1,7 +1,7 @@
 use Rattle.std.proofs.Common.{arith, sym, ap, ◌∙◌}
 use Rattle.pg_schedule.specs.Cells.{cell_at, is_above}
 use Rattle.pg_schedule.proofs.GreatestRanks.{byte_more, byte_none}
-use Rattle.pg_schedule.proofs.answered.is_met.Goals as goal
+use Rattle.pg_schedule.proofs.answered.is_met_anywhere.Goals as goal
 
 pub returns-then-is_above : goal.returns-then-is_above
 returns-then-is_above c =

@@ -4,7 +4,7 @@ use Rattle.pg_run_trace.specs.Best.{other}
 use Rattle.pg_schedule.specs.Cells.{cell_at}
 use Rattle.pg_schedule.specs.Touches.{rank_if}
 use Rattle.pg_schedule.proofs.NotedTouches.{noted_more}
-use Rattle.pg_schedule.proofs.answered.note.Goals as goal
+use Rattle.pg_schedule.proofs.answered.note_anywhere.Goals as goal
 
 pub loop-i-preserved : goal.loop-i-preserved
 loop-i-preserved c =
