@@ -1,5 +1,5 @@
 -- The passes answer all footprints.
-use Rattle.std.proofs.Common.{◌≡◌, ◌≤◌, Bool, true, false, List, [], ◌∷◌, map, refl, sym, ap, ◌∙◌, subst}
+use Rattle.std.proofs.Common.{◌≡◌, ◌≤◌, ℕ, Bool, true, false, List, All, [], ◌∷◌, map, refl, sym, ap, ◌∙◌, subst}
 use Rattle.std.specs.Prelude.{◌≢◌, ◌&&◌, ◌||◌, not, reverse}
 use Rattle.std.specs.List.{list_any, AllByRecursion}
 use Rattle.std.proofs.lemmas.Bool.{eq-eqb}
@@ -10,7 +10,7 @@ use Rattle.pg_slice_conflicts.specs.declared.places.Placed.{Placed}
 use Rattle.pg_slice_conflicts.specs.Joined.{or_each}
 use Rattle.pg_slice_conflicts.specs.Meets.{InOrder, bytes_of, is_met, meets, minds, overlap, share}
 use Rattle.pg_slice_conflicts.specs.Passes.{answers_along, before_by}
-use Rattle.pg_slice_conflicts.specs.Places.{ArePlaced, IsPlaced, footprint_of}
+use Rattle.pg_slice_conflicts.specs.Places.{IsPlaced, footprint_of}
 use Rattle.pg_slice_conflicts.proofs.AnsweredOneWay.{backward, forward}
 use Rattle.pg_slice_conflicts.proofs.AnsweredBothWays.{both}
 use Rattle.pg_slice_conflicts.proofs.Joining.{any_map}
@@ -42,10 +42,10 @@ met_footprints ps ws (z ∷ zs) e =
     ap (λ b. b ∷ map (λ y. list_any (λ x. meets y.footprint x.footprint) ws) zs) (sym (ap (list_any (meets z.footprint)) e ∙ any_map (meets z.footprint) footprint_of ws))
     ∙ ap (λ l. is_met ps z.footprint ∷ l) (met_footprints ps ws zs e)
 
-pub all_answered : (footprints : List Footprint) (zs : List Placed) → ArePlaced footprints zs → InOrder footprints →
+pub all_answered : (bytes : List ℕ) (footprints : List Footprint) (zs : List Placed) → All (IsPlaced bytes) zs → map footprint_of zs ≡ footprints → InOrder footprints →
     or_each (before_by (answers_along false) [] zs) (reverse (before_by (answers_along true) [] (reverse zs))) ≡ map (is_met footprints) footprints
-all_answered footprints zs p o =
-    both stand (IsPlaced p.bytes) (answers_along false) (answers_along true) (λ y x. meets y.footprint x.footprint)
-    (λ x y px py r. forward p.bytes x y px py r) (λ x y px py r. backward p.bytes x y px py r) not_own
-    zs (recursion_from_All (IsPlaced p.bytes) zs p.each) (in_order zs (subst InOrder (sym p.same) o))
-    ∙ met_footprints footprints zs zs (sym p.same) ∙ ap (map (is_met footprints)) p.same
+all_answered bytes footprints zs each same o =
+    both stand (IsPlaced bytes) (answers_along false) (answers_along true) (λ y x. meets y.footprint x.footprint)
+    (λ x y px py r. forward bytes x y px py r) (λ x y px py r. backward bytes x y px py r) not_own
+    zs (recursion_from_All (IsPlaced bytes) zs each) (in_order zs (subst InOrder (sym same) o))
+    ∙ met_footprints footprints zs zs (sym same) ∙ ap (map (is_met footprints)) same

@@ -1,5 +1,5 @@
 -- Where footprints stand among the first bytes of all footprints.
-use Rattle.std.specs.Prelude.{◌≡◌, ℕ, ◌+◌, ◌<◌, ◌≤◌, List, length, map, slice_index_or, All, Contains}
+use Rattle.std.specs.Prelude.{ℕ, ◌+◌, ◌<◌, ◌≤◌, List, length, slice_index_or, Contains}
 use Rattle.pg_slice_conflicts.specs.declared.footprint.Footprint.{Footprint}
 use Rattle.pg_slice_conflicts.specs.declared.places.Placed.{Placed}
 
@@ -22,10 +22,3 @@ pub record IsPlaced (bytes : List ℕ) (z : Placed) : Type 0 where
   pub first : IsPlace bytes z.footprint.start z.first
   pub end : IsPlace bytes (z.footprint.start + z.footprint.bytes) z.end
   pub start : Contains bytes z.footprint.start
-
--- footprints with their places among as many bytes
-pub record ArePlaced (footprints : List Footprint) (zs : List Placed) : Type 0 where
-  pub bytes : List ℕ
-  pub as_many : length bytes ≡ length footprints
-  pub each : All (IsPlaced bytes) zs
-  pub same : map footprint_of zs ≡ footprints

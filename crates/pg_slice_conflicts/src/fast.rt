@@ -10,7 +10,7 @@ ghost use Rattle.pg_slice_conflicts.specs.declared.places.Placed.{Placed as APla
 use crate::footprint::Footprint;
 use crate::merged::{answers_at, merge};
 use crate::pass::Pass;
-use crate::places::{Placed, place_all};
+use crate::places::{Placed, place_all, starts};
 use crate::table::{answered_before, no_marks};
 use crate::tree::{Tree, tree_over};
 use pg_num::either;
@@ -97,8 +97,9 @@ fn conflicts_of_all(alloc: Global, footprints: &[Footprint]) -> Result<Vec<bool>
     requires { InOrder footprints.now }
     ensures { IfOk result (λ v. v.items ≡ map (is_met footprints.now) footprints.now) }
 {
-    let tree = tree_over(footprints.len())?;
-    let mut placed = place_all(alloc, footprints)?;
+    let bytes = starts(alloc, footprints)?;
+    let tree = tree_over(bytes.len())?;
+    let mut placed = place_all(alloc, bytes.as_slice(), footprints)?;
     let mut met = answered_along(alloc, tree, placed.as_slice(), false)?;
     placed.reverse();
     let mut behind = answered_along(alloc, tree, placed.as_slice(), true)?;

@@ -1,13 +1,13 @@
 //! Footprints with their places among the first bytes of all.
 
-ghost use Rattle.std.specs.Prelude.{◌≡◌, ◌+◌, All, Contains, IfOk, map};
-ghost use Rattle.std.specs.List.Sorted.{IsNonDecreasing, IsPermutation};
-ghost use Rattle.pg_slice_conflicts.specs.Places.{ArePlaced, IsPlace, IsPlaced, footprint_of, start_of};
+ghost use Rattle.std.specs.Prelude.{◌≡◌, ◌+◌, ℕ, All, Contains, IfOk, map};
+ghost use Rattle.std.specs.List.Sorted.{IsNonDecreasing};
+ghost use Rattle.pg_slice_conflicts.specs.Places.{IsPlace, IsPlaced, footprint_of, start_of};
 
 use crate::footprint::{Footprint, footprint_at};
 use std::alloc::{AllocError, Global};
 
-/// A footprint with its places: how many footprints begin before its first byte, and how many before its end.
+/// A footprint with its places: at how many bytes footprints begin before its first byte, and at how many before its end.
 #[derive(Clone, Copy)]
 pub(crate) struct Placed {
     pub footprint: Footprint,
@@ -15,16 +15,17 @@ pub(crate) struct Placed {
     pub end: usize,
 }
 
-/// The first bytes of the footprints, ascending.
-fn starts(alloc: Global, footprints: &[Footprint]) -> Result<Vec<u64>, AllocError>
+/// The first bytes of the footprints, ascending, each once.
+pub(crate) fn starts(alloc: Global, footprints: &[Footprint]) -> Result<Vec<u64>, AllocError>
     ensures ascending { IfOk result (λ v. IsNonDecreasing v.items) }
-    ensures same { IfOk result (λ v. IsPermutation (map start_of footprints.now) v.items) }
+    ensures all { IfOk result (λ v. (b : ℕ) → Contains (map start_of footprints.now) b → Contains v.items b) }
 {
     let mut starts = Vec::with_capacity(alloc, footprints.len())?;
     for footprint in footprints {
         starts.push(footprint.start)?;
     }
     starts.sort_unstable();
+    starts.dedup();
     Ok(starts)
 }
 
@@ -65,13 +66,13 @@ fn placed_at(bytes: &[u64], footprint: Footprint) -> Placed
 }
 
 /// The footprints with their places among these bytes.
-fn placed_among(
+pub(crate) fn place_all(
     alloc: Global,
     bytes: &[u64],
     footprints: &[Footprint],
 ) -> Result<Vec<Placed>, AllocError>
     requires ascending { IsNonDecreasing bytes.now }
-    requires same { IsPermutation (map start_of footprints.now) bytes.now }
+    requires all { (b : ℕ) → Contains (map start_of footprints.now) b → Contains bytes.now b }
     ensures placed { IfOk result (λ v. All (IsPlaced bytes.now) v.items) }
     ensures footprints { IfOk result (λ v. map footprint_of v.items ≡ footprints.now) }
 {
@@ -79,15 +80,5 @@ fn placed_among(
     for i in 0..footprints.len() {
         placed.push(placed_at(bytes, footprint_at(footprints, i)))?;
     }
-    Ok(placed)
-}
-
-/// The footprints with their places.
-pub(crate) fn place_all(alloc: Global, footprints: &[Footprint]) -> Result<Vec<Placed>, AllocError>
-    ensures { IfOk result (λ v. ArePlaced footprints.now v.items) }
-{
-    let bytes = starts(alloc, footprints)?;
-    // In two lines for the proof: see docs/CONTRIBUTING.md.
-    let placed = placed_among(alloc, bytes.as_slice(), footprints)?;
     Ok(placed)
 }
