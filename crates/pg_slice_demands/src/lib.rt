@@ -3,6 +3,7 @@
 #![tactic(auto)]
 
 mod call;
+mod cells;
 mod demanded;
 mod places;
 
