@@ -1,7 +1,10 @@
 -- The numbers of nodes, one node at a time.
-use Rattle.std.proofs.Common.{◌≡◌, ℕ, zero, suc, ◌+◌, ◌++◌, ℤ, List, [], ◌∷◌, length, drop, Option, Some, slice_get, arith, refl, ap, sym, ◌∙◌, subst}
+use Rattle.std.proofs.Common.{◌≡◌, ℕ, zero, suc, ◌<◌, ◌++◌, ℤ, List, [], ◌∷◌, length, drop, Option, Some, None, slice_get, arith, refl, ap, sym, ◌∙◌}
+use Rattle.std.proofs.lemmas.List.{get_or_append_left, length_push}
+use Rattle.pg_precondition.specs.declared.check.Check.{Check}
 use Rattle.pg_precondition.specs.declared.node.Node.{Node}
-use Rattle.pg_precondition.specs.Values.{numbers_behind, numbers_of, node_number}
+use Rattle.pg_precondition.specs.Scratches.{AreFirst}
+use Rattle.pg_precondition.specs.Values.{holds, is_met, number_of, numbers_behind, numbers_of, node_number}
 
 dropped : (xs : List Node) (i : ℕ) (x : Node) → slice_get xs i ≡ Some x → drop i xs ≡ x ∷ drop (suc i) xs
 dropped [] i x h = absurd cc
@@ -13,35 +16,29 @@ next_of : (input : List ℤ) (known : List (Option ℕ)) (n : Node) (nodes : Lis
 unfolding numbers_behind
 next_of input known n nodes = refl
 
+-- no number is known yet
+pub none_known : (input : List ℤ) (nodes : List Node) → AreFirst input nodes []
+none_known input nodes = record { first = refl }
+
 -- one number more
-pub filled : (input : List ℤ) (nodes : List Node) (known : List (Option ℕ)) (i : ℕ) (n : Node) → slice_get nodes i ≡ Some n
-    → numbers_behind input known (drop i nodes) ≡ numbers_of input nodes → numbers_behind input (known ++ node_number input known n ∷ []) (drop (i + 1) nodes) ≡ numbers_of input nodes
-filled input nodes known i n h k =
-    let l : i + 1 ≡ suc i = omega arith in
-    rw l (sym (next_of input known n (drop (suc i) nodes)) ∙ ap (numbers_behind input known) (sym (dropped nodes i n h)) ∙ k)
+pub next_known : (input : List ℤ) (nodes : List Node) (known : List (Option ℕ)) (n : Node) → AreFirst input nodes known → slice_get nodes (length known) ≡ Some n
+    → AreFirst input nodes (known ++ node_number input known n ∷ [])
+next_known input nodes known n h at =
+    let l : length (known ++ node_number input known n ∷ []) ≡ suc (length known) = (let p = length_push known (node_number input known n) in omega (arith, p)) in
+    record {
+      first = ap (λ i. numbers_behind input (known ++ node_number input known n ∷ []) (drop i nodes)) l
+          ∙ sym (next_of input known n (drop (suc (length known)) nodes)) ∙ ap (numbers_behind input known) (sym (dropped nodes (length known) n at)) ∙ h.first;
+    }
 
-past_all : (nodes : List Node) → drop (length nodes) nodes ≡ []
-past_all [] = refl
-past_all (n ∷ ns) = past_all ns
-
-behind_none : (input : List ℤ) (known : List (Option ℕ)) → numbers_behind input known [] ≡ known
+-- the numbers of more nodes leave a known number as it is
+stands : (input : List ℤ) (known : List (Option ℕ)) (nodes : List Node) (i : ℕ) → i < length known → number_of (numbers_behind input known nodes) i ≡ number_of known i
 unfolding numbers_behind
-behind_none input known = refl
+stands input known [] i l = refl
+stands input known (n ∷ nodes) i l =
+    let p = length_push known (node_number input known n) in
+    stands input (known ++ node_number input known n ∷ []) nodes i (omega (arith, l, p)) ∙ get_or_append_left known (node_number input known n ∷ []) None i l
 
-pub all_filled : (input : List ℤ) (nodes : List Node) (known : List (Option ℕ)) (i : ℕ) → i ≡ length nodes → numbers_behind input known (drop i nodes) ≡ numbers_of input nodes
-    → known ≡ numbers_of input nodes
-all_filled input nodes known i e h = sym (behind_none input known) ∙ ap (numbers_behind input known) (sym (past_all nodes))
-    ∙ subst (λ (j : ℕ). numbers_behind input known (drop j nodes) ≡ numbers_of input nodes) e h
-
-lengthened : (xs : List (Option ℕ)) (x : Option ℕ) → length (xs ++ x ∷ []) ≡ length xs + 1
-lengthened [] x = refl
-lengthened (y ∷ ys) x = let h = lengthened ys x in omega arith
-
-longer : (input : List ℤ) (known : List (Option ℕ)) (nodes : List Node) → length (numbers_behind input known nodes) ≡ length known + length nodes
-unfolding numbers_behind
-longer input known [] = omega arith
-longer input known (n ∷ ns) = let h = longer input (known ++ node_number input known n ∷ []) ns in let k = lengthened known (node_number input known n) in omega arith
-
--- there is a number for each node
-pub as_many : (input : List ℤ) (nodes : List Node) → length (numbers_of input nodes) ≡ length nodes
-as_many input nodes = let h = longer input [] nodes in omega (arith, h)
+-- a check of a known number holds where it holds of the numbers of all nodes
+pub known_holds : (input : List ℤ) (nodes : List Node) (known : List (Option ℕ)) (c : Check) → AreFirst input nodes known → c.node < length known
+    → holds known c ≡ holds (numbers_of input nodes) c
+known_holds input nodes known c h l = ap (is_met c.test) (sym (stands input known (drop (length known) nodes) c.node l) ∙ ap (λ ns. number_of ns c.node) h.first)

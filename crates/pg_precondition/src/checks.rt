@@ -2,9 +2,11 @@
 
 ghost use Rattle.std.specs.Prelude.{◌≡◌, ◌≤◌, ◌<◌, ◌^◌, ℕ, length, slice_get, IfSome};
 ghost use Rattle.std.specs.List.{list_all};
-ghost use Rattle.pg_precondition.specs.Values.{holds, is_admitted, is_met, meets};
+ghost use Rattle.pg_precondition.specs.Scratches.{AreFirst};
+ghost use Rattle.pg_precondition.specs.Values.{holds, is_admitted, is_met, meets, numbers_of};
 
 use crate::check::{Check, Test};
+use crate::nodes::Nodes;
 use crate::precondition::Precondition;
 use crate::scratch::Scratch;
 use pg_num::unpack;
@@ -34,27 +36,46 @@ fn holds(check: &Check, numbers: &[Option<u64>]) -> bool
     }
 }
 
-/// Whether all checks hold.
-fn all_hold(checks: &[Check], numbers: &[Option<u64>]) -> bool
-    requires { (i : ℕ) → IfSome (slice_get checks.now i) (λ c. c.node < length numbers.now) }
-    ensures { result ≡ list_all (holds numbers.now) checks.now }
+#[tactic(auto, using(crate::proofs::NodeNumbers::known_holds))]
+/// Whether a check holds of the number that its node has on the input. Computes the numbers up to that node where they
+/// aren't known yet. Takes no memory.
+fn holds_on(check: &Check, nodes: &Nodes, scratch: &mut Scratch, input: &[i64]) -> bool
+    requires below { check.now.node < length nodes.now }
+    requires room { length nodes.now ≤ scratch.old.room }
+    requires first { AreFirst input.now nodes.now scratch.old.numbers }
+    ensures holds { result ≡ holds (numbers_of input.now nodes.now) check.now }
+    ensures first { AreFirst input.now nodes.now scratch.new.numbers }
+    ensures room { scratch.new.room ≡ scratch.old.room }
+{
+    scratch.fill_to(nodes, check.node, input);
+    holds(check, scratch.numbers())
+}
+
+/// Whether all checks hold: in order, up to the first that doesn't. Takes no memory.
+fn all_hold(checks: &[Check], nodes: &Nodes, scratch: &mut Scratch, input: &[i64]) -> bool
+    requires below { (i : ℕ) → IfSome (slice_get checks.now i) (λ c. c.node < length nodes.now) }
+    requires room { length nodes.now ≤ scratch.old.room }
+    requires first { AreFirst input.now nodes.now scratch.old.numbers }
+    ensures holds { result ≡ list_all (holds (numbers_of input.now nodes.now)) checks.now }
+    ensures room { scratch.new.room ≡ scratch.old.room }
 {
     for check in checks {
-        if !holds(check, numbers) {
+        if !holds_on(check, nodes, scratch, input) {
             return false;
         }
     }
     true
 }
 
-#[tactic(auto, using(crate::proofs::NodeNumbers::as_many))]
-/// Whether an input meets a precondition: all checks hold of the numbers that the nodes have on it. The scratch is
-/// one with room for the precondition's nodes. Takes no memory.
+#[tactic(auto, using(crate::proofs::NodeNumbers::none_known))]
+/// Whether an input meets a precondition: all checks hold of the numbers that the nodes have on it. The numbers are
+/// computed as far as the next check needs them, up to the first check that doesn't hold. The scratch is one with room
+/// for the precondition's nodes. Takes no memory.
 pub fn admits(c: &Precondition, scratch: &mut Scratch, input: &[i64]) -> bool
     requires { length c.now.nodes ≤ scratch.old.room }
     ensures admits { result ≡ is_admitted input.now c.now }
     ensures room { scratch.new.room ≡ scratch.old.room }
 {
-    scratch.fill(c.nodes(), input);
-    all_hold(c.checks(), scratch.numbers())
+    scratch.clear();
+    all_hold(c.checks(), c.nodes(), scratch, input)
 }

@@ -25,9 +25,9 @@ impl Model for Scratch {
 }
 
 impl Scratch {
-    ghost use Rattle.std.specs.Prelude.{◌≡◌, ◌≤◌, [], length, IfOk, drop};
+    ghost use Rattle.std.specs.Prelude.{◌≡◌, ◌≤◌, ◌<◌, [], length, IfOk};
     ghost use Rattle.pg_precondition.specs.Nodes.{AreNodes};
-    ghost use Rattle.pg_precondition.specs.Values.{numbers_of, numbers_behind};
+    ghost use Rattle.pg_precondition.specs.Scratches.{AreFirst};
 
     /// Room for the numbers of the nodes of `c`.
     ///
@@ -44,16 +44,26 @@ impl Scratch {
         })
     }
 
-    #[tactic(auto, using(crate::proofs::NodeNumbers::filled, crate::proofs::NodeNumbers::all_filled))]
-    /// Computes the numbers of all nodes on an input. Takes no memory.
-    pub(crate) fn fill(&mut self, nodes: &Nodes, input: &[i64])
-        requires { length nodes.now ≤ self.old.room }
-        ensures { self.new ≡ record self.old { numbers = numbers_of input.now nodes.now } }
+    /// Forgets the numbers.
+    pub(crate) fn clear(&mut self)
+        ensures { self.new ≡ record self.old { numbers = [] } }
     {
         self.numbers.clear();
-        for i in 0..nodes.len() {
-            let node = nodes.node(i);
-            let number = node_number(&node, self.numbers.as_slice(), input);
+    }
+
+    #[tactic(auto, using(crate::proofs::NodeNumbers::next_known))]
+    /// Computes the numbers of the nodes up to this one on an input, behind those that are known. Takes no memory.
+    pub(crate) fn fill_to(&mut self, nodes: &Nodes, node: u32, input: &[i64])
+        requires below { node < length nodes.now }
+        requires room { length nodes.now ≤ self.old.room }
+        requires first { AreFirst input.now nodes.now self.old.numbers }
+        ensures first { AreFirst input.now nodes.now self.new.numbers }
+        ensures filled { node < length self.new.numbers }
+        ensures room { self.new.room ≡ self.old.room }
+    {
+        for i in self.numbers.len() as u32..node + 1 {
+            let next = nodes.node(i);
+            let number = node_number(&next, self.numbers.as_slice(), input);
             self.numbers.push_reserved(number);
         }
     }
