@@ -16,14 +16,15 @@ pub(crate) struct Accessor {
     writes: bool,
 }
 
-/// The steps of an accessor between two of its thread's turns. Of one accessor, those behind more turns come first.
+/// The steps of an accessor between two of its thread's turns, which have one interval. Of one accessor, those behind more turns
+/// come first.
 #[derive(Clone, Copy, Debug, PartialEq, Eq, PartialOrd, Ord)]
 struct Stretch {
     accessor: Accessor,
     left: usize,
 }
 
-/// The last stretch of an accessor so far: the last of its steps, and behind how many turns of the run they stand.
+/// The last stretch of an accessor so far: one of its steps, and behind how many turns of the run they stand.
 #[derive(Clone, Copy, Debug, PartialEq, Eq)]
 pub(crate) struct Last {
     step: usize,
@@ -46,14 +47,12 @@ struct Noted {
     among: Option<usize>,
 }
 
-/// The last stretch so far of each accessor, and the last step of each stretch; where the regions of branches were noted last; and
-/// whether a decision was taken.
+/// The last stretch so far of each accessor, and a step of each stretch; and where the regions of branches were noted last.
 #[derive(Drop)]
 pub(crate) struct Rivals {
     last: BTreeMap<Accessor, Last>,
     stretches: BTreeMap<Stretch, usize>,
     regions: BTreeMap<Site, Noted>,
-    took: bool,
 }
 
 impl Accessor {
@@ -89,19 +88,6 @@ impl Rivals {
             last: BTreeMap::new(alloc),
             stretches: BTreeMap::new(alloc),
             regions: BTreeMap::new(alloc),
-            took: false,
-        }
-    }
-
-    /// Whether a decision was taken.
-    pub(crate) fn took(&self) -> bool {
-        self.took
-    }
-
-    /// A decision was taken, if this says so.
-    pub(crate) fn tell(&mut self, took: bool) {
-        if took {
-            self.took = true;
         }
     }
 
@@ -121,17 +107,28 @@ impl Rivals {
             of_region,
             writes,
         };
+        if self.has_last(accessor, turn) {
+            return Ok(());
+        }
         self.stretches.insert(accessor.behind(turn), number)?;
-        if !self.has_later(accessor, number) {
+        if !self.has_later(accessor, turn) {
             self.last.insert(accessor, Last { step: number, turn })?;
         }
         Ok(())
     }
 
-    /// Whether a later step than this one was noted of an accessor.
-    fn has_later(&self, accessor: Accessor, number: usize) -> bool {
+    /// Whether the last stretch so far of an accessor stands behind so many turns.
+    fn has_last(&self, accessor: Accessor, turn: usize) -> bool {
         match self.last.get(&accessor) {
-            Some(last) => last.step > number,
+            Some(last) => last.turn == turn,
+            None => false,
+        }
+    }
+
+    /// Whether a stretch of an accessor was noted that stands behind more turns.
+    fn has_later(&self, accessor: Accessor, turn: usize) -> bool {
+        match self.last.get(&accessor) {
+            Some(last) => last.turn > turn,
             None => false,
         }
     }
@@ -189,7 +186,7 @@ impl Rivals {
         self.last.range(first..)
     }
 
-    /// The last step of the last stretch of an accessor that stands behind so many turns at the most, if there is one: if some
+    /// A step of the last stretch of an accessor that stands behind so many turns at the most, if there is one: if some
     /// stretch of it overlaps an interval that ends there, this one does.
     pub(crate) fn up_to(&self, accessor: &Accessor, last: Last, turn: usize) -> Option<usize> {
         if last.turn <= turn {

@@ -40,8 +40,8 @@ fn take_demanded(
     widen(alloc, &walk, decisions)
 }
 
-/// Takes decisions that each closed set above the present ones has: those for which what has to be known along the run asks,
-/// those for which the live steps ask by their bounds, and then, if these were some, again the former.
+/// Takes decisions that each closed set above the present ones has: those for which the live steps ask by what they are and by
+/// their bounds, and then those for which what has to be known along the run asks.
 fn take_found(
     alloc: Global,
     run: &GivenRun,
@@ -56,23 +56,13 @@ fn take_found(
     ensures left { OnOk result (left_by decisions.new ≤ left_by decisions.old) }
     ensures widens { OnOk result (Widens run.now.p.now run.now.r.now holders.now counts.now run.now.t.now.steps (taken_by decisions.old) (taken_by decisions.new)) }
 {
-    let walk = Walk {
-        program: run.p,
-        trace: run.t,
-        reference: run.r,
-        holders,
-        counts,
-    };
-    widen(alloc, &walk, decisions)?;
-    let took = spread_over(alloc, run, holders, decisions)?;
-    if took {
-        return take_demanded(alloc, run, holders, counts, decisions);
-    }
+    spread_over(alloc, run, holders, decisions)?;
+    take_demanded(alloc, run, holders, counts, decisions)?;
     Ok(())
 }
 
-/// The slice of a reference run, and what an input must give so that it serves: from no decisions on, what is found by a
-/// walk from its end back and by the bounds of live steps is taken in, and what a pass misses then, until nothing is missing
+/// The slice of a reference run, and what an input must give so that it serves: from no decisions on, what is found by
+/// the bounds of live steps and by a walk from its end back is taken in, and what a pass misses then, until nothing is missing
 /// that isn't taken.
 ///
 /// # Errors

@@ -1,5 +1,5 @@
 //! What live steps ask by what they are, by their bounds and by those of others: the first rule, the fourth and the fifth.
-ghost use Rattle.std.specs.Prelude.{◌≡◌, ◌<◌, ◌≤◌, ℕ, List, true, false, IfOk, OnOk, length, slice_index_or};
+ghost use Rattle.std.specs.Prelude.{◌≡◌, ◌<◌, ◌≤◌, ℕ, List, true, false, Some, IfOk, OnOk, length, slice_get, slice_index_or};
 ghost use Rattle.pg_slice_rules.specs.Known as known;
 ghost use Rattle.pg_slice_rules.specs.Known.{Taken};
 ghost use Rattle.pg_slice_rules.specs.declared.decision.Decision.TheVariants as variants;
@@ -27,12 +27,14 @@ use pg_slice_walk::pg_slice_replay::ReferenceRun;
 use std::alloc::{AllocError, Global};
 
 /// What is found along a run: which steps are live, which branch steps are settled, since they and those in whose extents they
-/// stand are pinned, and the last steps that may access what lies within given bounds.
+/// stand are pinned, and the last steps that may access what lies within given bounds; and whether the run was gone along before,
+/// so that these are of the whole run.
 #[derive(Drop)]
 struct Spread {
     live: Vec<bool>,
     settled: Vec<bool>,
     rivals: Rivals,
+    again: bool,
 }
 
 /// Whether a step is at a branch.
@@ -78,22 +80,23 @@ fn asks_pin(
     run: &GivenRun,
     holders: &[u32],
     decisions: &DecisionSet,
+    step: &Step,
     number: usize,
 ) -> bool
-    requires { IsAsked run.now.r.now run.now.intervals.now holders.now run.now.t.now.steps (taken_by decisions.now) s.now.live.items number }
+    requires asked { IsAsked run.now.r.now run.now.intervals.now holders.now run.now.t.now.steps (taken_by decisions.now) s.now.live.items number }
+    requires step { slice_get run.now.t.now.steps number ≡ Some step.now }
     ensures { result ≡ true → IsOwed run.now.r.now holders.now run.now.t.now.steps (taken_by decisions.now) (variants.Pinned number) }
 {
-    let step = run.t.step(number);
     if decisions.is_pinned(number) {
         return false;
     }
-    if !is_branch(&step) {
+    if !is_branch(step) {
         return false;
     }
     if !run.r.is_free(number) {
         return true;
     }
-    if is_known_apart(&s.rivals, run, &step, number) {
+    if is_known_apart(&s.rivals, run, step, number) {
         return false;
     }
     match disturbing(&s.rivals, run, s.live.as_slice(), number) {
@@ -118,22 +121,26 @@ fn is_store(step: &Step) -> bool {
     }
 }
 
-/// Whether the fifth rule asks that a live step is exact.
+/// Whether the fifth rule asks that a live step is exact; it isn't asked along the run for the first time.
 fn asks_exact(
     s: &Spread,
     run: &GivenRun,
     holders: &[u32],
     decisions: &DecisionSet,
+    step: &Step,
     number: usize,
 ) -> bool
-    requires { IsAsked run.now.r.now run.now.intervals.now holders.now run.now.t.now.steps (taken_by decisions.now) s.now.live.items number }
+    requires asked { IsAsked run.now.r.now run.now.intervals.now holders.now run.now.t.now.steps (taken_by decisions.now) s.now.live.items number }
+    requires step { slice_get run.now.t.now.steps number ≡ Some step.now }
     ensures { result ≡ true → IsOwed run.now.r.now holders.now run.now.t.now.steps (taken_by decisions.now) (variants.Exact number) }
 {
-    let step = run.t.step(number);
+    if !s.again {
+        return false;
+    }
     if decisions.is_exact(number) {
         return false;
     }
-    if !is_plain(&step) {
+    if !is_plain(step) {
         return false;
     }
     match sharing(
@@ -142,8 +149,8 @@ fn asks_exact(
         run.intervals,
         s.live.as_slice(),
         number,
-        pointer_of(&step),
-        is_store(&step),
+        pointer_of(step),
+        is_store(step),
     ) {
         Some(rival) => rival < run.t.len(),
         None => false,
@@ -263,24 +270,21 @@ fn take_asked(
     run: &GivenRun,
     holders: &[u32],
     decisions: &mut DecisionSet,
+    step: &Step,
     number: usize,
 )
     requires asked { IsAsked run.now.r.now run.now.intervals.now holders.now run.now.t.now.steps (taken_by decisions.old) s.now.live.items number }
+    requires step { slice_get run.now.t.now.steps number ≡ Some step.now }
     requires size { AreOf (length run.now.t.now.steps) decisions.old }
     ensures size { AreOf (length run.now.t.now.steps) decisions.new }
     ensures kept { AreWithin (taken_by decisions.old) (taken_by decisions.new) }
     ensures left { left_by decisions.new ≤ left_by decisions.old }
     ensures widens { Widens run.now.r.now holders.now run.now.t.now.steps (taken_by decisions.old) (taken_by decisions.new) }
 {
-    let pin = asks_pin(s, run, holders, decisions, number);
+    let pin = asks_pin(s, run, holders, decisions, step, number);
     take_if(decisions, run.t.len(), pin, Decision::Pinned(number));
-    let exact = asks_exact(s, run, holders, decisions, number);
+    let exact = asks_exact(s, run, holders, decisions, step, number);
     take_if(decisions, run.t.len(), exact, Decision::Exact(number));
-}
-
-/// Whether a decision on a step is taken.
-fn is_taken(decisions: &DecisionSet, number: usize) -> bool {
-    decisions.is_pinned(number) || decisions.is_exact(number)
 }
 
 /// What the rules ask of a step is taken, where it is live.
@@ -306,21 +310,13 @@ fn spread_step(
     if !is_settled(s.settled.as_slice(), holder_at(holders, number)) {
         return Ok(());
     }
+    let step = run.t.step(number);
     let known = is_known(s, number);
     mark_live(s, number);
-    let was = is_taken(decisions, number);
-    take_asked(s, run, holders, decisions, number);
+    take_asked(s, run, holders, decisions, &step, number);
     mark_settled(s, decisions, number);
-    s.rivals.tell(is_taken(decisions, number) != was);
     let pinned = decisions.is_pinned(number);
-    note(
-        &mut s.rivals,
-        run,
-        &run.t.step(number),
-        number,
-        known,
-        pinned,
-    )?;
+    note(&mut s.rivals, run, &step, number, known, pinned)?;
     Ok(())
 }
 
@@ -359,17 +355,18 @@ fn start(alloc: Global, steps: usize) -> Result<Spread, AllocError>
         live,
         settled,
         rivals: Rivals::new(alloc),
+        again: false,
     })
 }
 
 /// Takes what the first rule, the fourth and the fifth ask of the steps that are live, and of those that are live then: the
-/// second time along the run the steps that may meet one are known. Tells whether it took anything.
+/// second time along the run the steps that may meet one are known.
 pub(crate) fn spread_over(
     alloc: Global,
     run: &GivenRun,
     holders: &[u32],
     decisions: &mut DecisionSet,
-) -> Result<bool, AllocError>
+) -> Result<(), AllocError>
     requires count { step_count run.now.r.now ≡ length run.now.t.now.steps }
     requires intervals { run.now.intervals.now ≡ intervals_of Recorded run.now.t.now.steps }
     requires size { AreOf (length run.now.t.now.steps) decisions.old }
@@ -379,6 +376,7 @@ pub(crate) fn spread_over(
 {
     let mut s = start(alloc, run.t.len())?;
     spread_along(&mut s, run, holders, decisions)?;
+    s.again = true;
     spread_along(&mut s, run, holders, decisions)?;
-    Ok(s.rivals.took())
+    Ok(())
 }

@@ -4,8 +4,8 @@ use Rattle.pg_slice.proofs.MoreDecisions.{live_stays}
 use Rattle.pg_slice_walk.proofs.SettledWithMore.{pinned_more}
 use Rattle.pg_slice.proofs.spread.take_asked.Goals as goal
 
-pub asks_exact-exact-requires : goal.asks_exact-exact-requires
-asks_exact-exact-requires c =
+pub asks_exact-exact-requires-clause-asked : goal.asks_exact-exact-requires-clause-asked
+asks_exact-exact-requires-clause-asked c =
     let asked = c.requires.asked in
     record {
       count = asked.count;
