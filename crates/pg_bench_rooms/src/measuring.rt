@@ -5,7 +5,7 @@ ghost use Rattle.pg_test_go.specs.Serves.{Serves};
 use crate::programs::Job;
 use crate::times::{Part, Times};
 use anyhow::{Result, anyhow};
-use pg_go::{Crew, OneByOne, Room, Together, prepare_in};
+use pg_go::{Crew, OneByOne, Parking, Room, Together, prepare_in};
 use pg_ir::Program;
 use pg_law_reuse::Entry;
 use pg_run::guide;
@@ -73,9 +73,10 @@ fn guided(
 
 /// Crews without hooks.
 #[derive(Drop)]
-struct Crews {
-    one_by_one: OneByOne,
-    together: Together,
+pub(crate) struct Crews {
+    pub(crate) one_by_one: OneByOne,
+    pub(crate) together: Together,
+    pub(crate) parking: Parking,
 }
 
 /// A run by each crew in a room, and the guided run. Gives the room again, and how many turns the run has.
@@ -97,6 +98,8 @@ fn measured_once<R: Threads + Clock + Sync>(
     times.one_by_one.add(one.ready, one.ended);
     let (room, all) = serve(rt, alloc, &mut crews.together, room, p, entry, input)?;
     times.together.add(all.ready, all.ended);
+    let (room, parked) = serve(rt, alloc, &mut crews.parking, room, p, entry, input)?;
+    times.parking.add(parked.ready, parked.ended);
     let turns = guided(rt, alloc, p, entry, input, &mut times.guided)?;
     Ok((room, turns))
 }
@@ -105,6 +108,7 @@ fn measured_once<R: Threads + Clock + Sync>(
 fn measured_runs<R: Threads + Clock + Sync>(
     rt: &R,
     alloc: Global,
+    crews: &mut Crews,
     p: &Program,
     entry: &mut Entry,
     input: &[i64],
@@ -112,15 +116,11 @@ fn measured_runs<R: Threads + Clock + Sync>(
 ) -> Result<(u32, Times)>
     requires serves { Serves p.now entry.old }
 {
-    let mut crews = Crews {
-        one_by_one: OneByOne::new(Vec::new(alloc)),
-        together: Together::new(Vec::new(alloc)),
-    };
     let mut room = Room::new(alloc)?;
     let mut times = Times::none();
     let mut turns = 0;
     'runs: for _ in 0..runs {
-        let (back, done) = measured_once(rt, alloc, &mut crews, room, p, entry, input, &mut times)?;
+        let (back, done) = measured_once(rt, alloc, crews, room, p, entry, input, &mut times)?;
         room = back;
         turns = done;
     }
@@ -131,11 +131,12 @@ fn measured_runs<R: Threads + Clock + Sync>(
 pub(crate) fn measured<R: Threads + Clock + Sync>(
     rt: &R,
     alloc: Global,
+    crews: &mut Crews,
     job: &Job<'_>,
     runs: u32,
 ) -> Result<(u32, Times)> {
     let p = job.program(alloc)?;
     let mut entry = job.entry(alloc, &p)?;
-    let found = measured_runs(rt, alloc, &p, &mut entry, job.input, runs)?;
+    let found = measured_runs(rt, alloc, crews, &p, &mut entry, job.input, runs)?;
     Ok(found)
 }

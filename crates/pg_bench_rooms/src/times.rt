@@ -72,6 +72,7 @@ pub(crate) struct Times {
     pub(crate) ready: Part,
     pub(crate) one_by_one: Part,
     pub(crate) together: Part,
+    pub(crate) parking: Part,
     pub(crate) guided: Part,
 }
 
@@ -82,6 +83,7 @@ impl Times {
             ready: Part::none(),
             one_by_one: Part::none(),
             together: Part::none(),
+            parking: Part::none(),
             guided: Part::none(),
         }
     }

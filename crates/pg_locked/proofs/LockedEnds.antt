@@ -32,7 +32,7 @@ use Rattle.pg_law_course.proofs.of_pg_law_order.FullRunOutput.{full_goes_on}
 use Rattle.pg_law_course.proofs.of_pg_law_order.GoodRunsServe.{stays, whole}
 use Rattle.pg_law_course.specs.Plan.{guided_deeds}
 use Rattle.pg_law_course.proofs.GuidedOutput.{same_turns}
-use Rattle.pg_locked.specs.Standing.{EndsAsGuided, Given, IsLocked, Standing}
+use Rattle.pg_locked.specs.Standing.{EndsAsGuided, Given, GoesOn, IsLocked, Standing}
 use Rattle.pg_locked.proofs.LockedSteps.{left_is}
 use Rattle.pg_locked.proofs.NextTurns.{TellsTrap, next_traps}
 
@@ -145,3 +145,13 @@ module _ (g : Given) (p : NumberedProgram) (s : Schedule) (m : BoundState) (take
         let spent : has_spent h.steps u.thread.0 ≡ false = lt-leb GUIDED_STEP_LIMIT (steps_of u.thread.0 h.steps) (let c = h.counts u.thread.0 lt in omega (arith, c, more)) in
         ended (ends.Trap name id) (held (or_left (traps p m.state u.thread.0) (has_spent h.steps u.thread.0) (ap (λ (o : Option TrapName). is_some o) told.0)))
         (here false (Some name) spent told.0 ∙ ap (λ (i : InstrId). ends.Trap name i) (sym told.1))
+
+  -- a turn is left, and its owner has a step left and doesn't trap by itself
+  pub goes_on : (u : Turn) → slice_get s.turns done ≡ Some u → slice_index taken u.thread.0 < GUIDED_STEP_LIMIT
+      → ((name : TrapName) (id : InstrId) → next_step p m u.thread.0 ≡ nexts.Trap name id → ⊥) → GoesOn g now
+  goes_on u next few goes = subst (λ (k : Given). GoesOn k now) h.same (record {
+    turn = u;
+    next = next;
+    few = few;
+    goes = λ name id is. goes name id (subst (λ (gated : List InstrId). next_step p (record { state = m.state; input = m.input; gated = gated }) u.thread.0 ≡ nexts.Trap name id) (sym h.gated) is);
+  })

@@ -1,12 +1,15 @@
 -- What lies under the lock of a run along a schedule: a machine, and where its threads stand.
-use Rattle.std.specs.Prelude.{◌≡◌, ℕ, ◌≤◌, ◌<◌, ℤ, List, [], length, slice_index, sum, drop}
-use Rattle.pg_law_course.specs.pg_num.declared.limits.TheConstants.{THREAD_LIMIT}
+use Rattle.std.specs.Prelude.{◌≡◌, ℕ, ◌≤◌, ◌<◌, ℤ, List, [], length, Some, slice_get, slice_index, sum, drop}
+use Rattle.pg_law_course.specs.pg_num.declared.limits.TheConstants.{GUIDED_STEP_LIMIT, THREAD_LIMIT}
+use Rattle.pg_law_course.specs.pg_ir.declared.ids.InstrId.{InstrId}
+use Rattle.pg_law_course.specs.pg_ir.declared.request.TrapName.{TrapName}
 use Rattle.pg_law_course.specs.pg_ir.Program.{NumberedProgram}
 use Rattle.pg_law_course.specs.pg_run_trace.declared.schedule.Schedule.{Schedule}
 use Rattle.pg_law_course.specs.pg_run_trace.declared.step.Step.{Step}
 use Rattle.pg_law_course.specs.pg_run_trace.declared.turn.Turn.{Turn}
 use Rattle.pg_law_course.specs.pg_run.declared.guided_end.GuidedEnd.{GuidedEnd}
-use Rattle.pg_law_course.specs.pg_run.Bound.{BoundState}
+use Rattle.pg_law_course.specs.pg_run.declared.machine.Next.TheVariants as nexts
+use Rattle.pg_law_course.specs.pg_run.Bound.{BoundState, next_step}
 use Rattle.pg_law_course.specs.pg_run.Machine.{IsMachine}
 use Rattle.pg_law_course.specs.pg_run.Permitted.{IsPermitted}
 use Rattle.pg_law_course.specs.pg_run.Runs.{events, steps_of}
@@ -68,3 +71,10 @@ pub record EndsAsGuided (g : Given) (v : Standing) (how : GuidedEnd) : Type 0 wh
   pub printed : v.state.printed ≡ (guided_along g.program g.input g.schedule).state.printed
   pub end : how ≡ (guided_along g.program g.input g.schedule).end
   pub turns : v.done ≡ (guided_along g.program g.input g.schedule).turns
+
+-- a turn is left, and its owner has a step left and doesn't trap by itself
+pub record GoesOn (g : Given) (v : Standing) : Type 0 where
+  pub turn : Turn
+  pub next : slice_get g.schedule.turns v.done ≡ Some turn
+  pub few : slice_index v.taken turn.thread.0 < GUIDED_STEP_LIMIT
+  pub goes : (name : TrapName) (id : InstrId) → next_step g.program (bound g v) turn.thread.0 ≡ nexts.Trap name id → ⊥

@@ -1,13 +1,13 @@
 //! What lies under the lock.
 
-ghost use Rattle.std.specs.Prelude.{◌≡◌, ◌+◌, ◌<◌, ◌≤◌, ◌^◌, None, Some, IfErr, IfOk, IfSome, drop, if◌then◌else◌, is_some, length, slice_get, slice_index, slice_set};
+ghost use Rattle.std.specs.Prelude.{◌≡◌, ◌+◌, ◌<◌, ◌≤◌, ◌^◌, None, Some, IfErr, IfNone, IfOk, IfSome, drop, if◌then◌else◌, is_some, length, slice_get, slice_index, slice_set};
 ghost use Rattle.pg_law_course.specs.pg_num.declared.limits.TheConstants.{GUIDED_STEP_LIMIT};
 ghost use Rattle.pg_law_course.specs.pg_run.State.{exit_value_of, initial};
 ghost use Rattle.pg_law_course.specs.pg_run.declared.guided_end.GuidedEnd.TheVariants.{Exit};
 ghost use Rattle.pg_law_course.specs.pg_run.MachineStep.{turn_of};
 ghost use Rattle.pg_law_course.specs.pg_law_order.Good.{IsGoodRun};
 ghost use Rattle.pg_law_course.specs.pg_law_runs.Cuts.{CanRun};
-ghost use Rattle.pg_locked.specs.Standing.{EndsAsGuided, StandsAtCut, given};
+ghost use Rattle.pg_locked.specs.Standing.{EndsAsGuided, GoesOn, StandsAtCut, given};
 ghost use Rattle.pg_locked.specs.Tries.{Answers, refusal_of};
 
 use crate::due::due;
@@ -180,9 +180,10 @@ impl<'a, J: Named> Locked<'a, J> {
         self.machine.count()
     }
 
-    /// How the run ends, where no turn is left, or the owner of the next one has stopped.
+    /// How the run ends, where no turn is left, or the owner of the next one has stopped. Gives none where it goes on.
     pub fn end(&self) -> Option<GuidedEnd>
-        ensures { IfSome result (EndsAsGuided J.run self.now) }
+        ensures ends { IfSome result (EndsAsGuided J.run self.now) }
+        ensures goes { IfNone result (GoesOn J.run self.now) }
     {
         let Some(turn) = turn_at(self.schedule.turns.as_slice(), self.done) else {
             return Some(exit_of(&self.machine));

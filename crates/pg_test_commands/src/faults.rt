@@ -2,6 +2,7 @@
 
 ghost use Rattle.std.specs.Prelude.{◌<◌};
 
+use crate::memory::words_of;
 use crate::session::SUM;
 use crate::workers::{SORTS, Sort, status_by};
 use pg_commands::Status;
@@ -37,14 +38,6 @@ const NONE: Faults<'static> = Faults {
     reads: &[],
     writes: &[],
 };
-
-fn words_of(alloc: Global, line: &str) -> Result<Vec<String>, AllocError> {
-    let mut words = Vec::new(alloc);
-    for word in line.split_whitespace() {
-        words.push(String::from_str(alloc, word)?)?;
-    }
-    Ok(words)
-}
 
 /// The status of a command on the program `x` and the lines. A crew of this sort runs workers.
 fn served<R: Threads + Wait + Sync, K: Sink>(

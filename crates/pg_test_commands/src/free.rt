@@ -1,9 +1,10 @@
 //! Sessions that record by a crew or by a seed, through the top call.
 
+use crate::memory::{shelf_of, source_of, words_of};
 use crate::workers::{SORTS, Sort, status_by};
 use pg_commands::Status;
 use pg_free::{Free, FreeCrew, Prefer};
-use pg_io::{MemoryShelf, MemorySink, MemorySource};
+use pg_io::MemorySink;
 use pg_ir::ThreadNo;
 use std::alloc::{AllocError, Global};
 use std::process::Abort;
@@ -12,7 +13,7 @@ use std::test::Fail;
 use std::thread::Threads;
 
 /// Main stores 100 in a word in which its thread stores the first number, and prints the word once it joined the thread.
-const RACING_STORES: &[u8] = b"declare i64 @pg_in(i64)\n\
+pub(crate) const RACING_STORES: &[u8] = b"declare i64 @pg_in(i64)\n\
 declare void @pg_out(i64)\n\
 declare i32 @pthread_create(ptr, ptr, ptr, ptr)\n\
 declare i32 @pthread_join(i64, ptr)\n\
@@ -63,14 +64,6 @@ define i32 @main() {\n\
   ret i32 0\n\
 }\n";
 
-fn words_of(alloc: Global, line: &str) -> Result<Vec<String>, AllocError> {
-    let mut words = Vec::new(alloc);
-    for word in line.split_whitespace() {
-        words.push(String::from_str(alloc, word)?)?;
-    }
-    Ok(words)
-}
-
 /// The status of a command on the program `x` and this input, where this crew records freely and one of this sort runs workers, and
 /// what it writes.
 pub(crate) fn outcome<R: Threads + Wait + Sync, G: FreeCrew + Drop>(
@@ -83,11 +76,8 @@ pub(crate) fn outcome<R: Threads + Wait + Sync, G: FreeCrew + Drop>(
     sort: Sort,
 ) -> Result<(Status, Vec<u8>), AllocError> {
     let words = words_of(alloc, line)?;
-    let name = String::from_str(alloc, "x")?;
-    let mut files = Vec::new(alloc);
-    files.push((name, program.to_vec(alloc)?))?;
-    let mut shelf = MemoryShelf::new(alloc, files, Vec::new(alloc));
-    let mut src = MemorySource::new(input.to_vec(alloc)?, 4_096, Vec::new(alloc));
+    let mut shelf = shelf_of(alloc, program)?;
+    let mut src = source_of(alloc, input)?;
     let mut out = MemorySink::new(alloc, 4_000, Vec::new(alloc))?;
     let status = status_by(
         rt, alloc, &words, &mut src, &mut shelf, &mut out, crew, sort,

@@ -15,6 +15,10 @@ mod long;
 #[cfg(test)]
 mod meeting;
 #[cfg(test)]
+mod memory;
+#[cfg(test)]
+mod parking;
+#[cfg(test)]
 mod session;
 #[cfg(test)]
 mod streams;

@@ -1,9 +1,10 @@
 //! Long sessions by the top call: runs at the limits of steps, inputs at the limit of bytes, and a trial.
 
+use crate::memory::{shelf_of, words_of};
 use crate::workers::{Sort, status_by};
 use pg_commands::Status;
 use pg_free::Free;
-use pg_io::{MemoryShelf, MemorySink, MemorySource};
+use pg_io::{MemorySink, MemorySource};
 use std::alloc::{AllocError, Global};
 use std::process::Abort;
 use std::sync::Wait;
@@ -54,14 +55,6 @@ refused 0\nturns 7500\nsum 43420000\n";
 /// The most bytes that a session takes.
 const LIMIT: usize = 16_777_216;
 
-fn words_of(alloc: Global, line: &str) -> Result<Vec<String>, AllocError> {
-    let mut words = Vec::new(alloc);
-    for word in line.split_whitespace() {
-        words.push(String::from_str(alloc, word)?)?;
-    }
-    Ok(words)
-}
-
 /// The status of a command on the program `x` and this input, where a crew of this sort runs workers, and what it writes.
 fn outcome<R: Threads + Wait + Sync>(
     rt: &R,
@@ -71,10 +64,7 @@ fn outcome<R: Threads + Wait + Sync>(
     sort: Sort,
 ) -> Result<(Status, Vec<u8>), AllocError> {
     let words = words_of(alloc, line)?;
-    let name = String::from_str(alloc, "x")?;
-    let mut files = Vec::new(alloc);
-    files.push((name, LOOP.to_vec(alloc)?))?;
-    let mut shelf = MemoryShelf::new(alloc, files, Vec::new(alloc));
+    let mut shelf = shelf_of(alloc, LOOP)?;
     let mut src = MemorySource::new(input, 4_096, Vec::new(alloc));
     let mut out = MemorySink::new(alloc, 400, Vec::new(alloc))?;
     let status = status_by(

@@ -1,10 +1,11 @@
 //! Two workers of a run are under way at once, through the top call: in the run of a line that is answered by reuse each waits for a
 //! flag that the other sets in the middle of its segment. No contract says so much of host threads.
 
+use crate::memory::{shelf_of, source_of, words_of};
 use pg_commands::pg_go::{AnyHook, Crew, Together};
 use pg_commands::{Status, peregrine};
 use pg_free::Free;
-use pg_io::{MemoryShelf, MemorySink, MemorySource};
+use pg_io::MemorySink;
 use pg_ir::{InstrId, ThreadNo};
 use pg_session_trial::trial_program;
 use pg_worker::Hook;
@@ -73,15 +74,6 @@ impl Hook for Meeting {
     }
 }
 
-/// The words of a line.
-fn words_of(alloc: Global, line: &str) -> Result<Vec<String>, AllocError> {
-    let mut words = Vec::new(alloc);
-    for word in line.split_whitespace() {
-        words.push(String::from_str(alloc, word)?)?;
-    }
-    Ok(words)
-}
-
 /// A hook for each of three workers.
 fn hooks_of(alloc: Global, flags: &Arc<Flags, Global>) -> Result<Vec<AnyHook>, AllocError> {
     let mut hooks = Vec::new(alloc);
@@ -107,11 +99,8 @@ fn two_workers_meet(rt: HostRuntime) -> Result<(), Fail> {
     )?;
     let mut crew = Together::new(hooks_of(alloc, &flags)?);
     let words = words_of(alloc, "serve x --quantum 10")?;
-    let name = String::from_str(alloc, "x")?;
-    let mut files = Vec::new(alloc);
-    files.push((name, trial_program().as_bytes().to_vec(alloc)?))?;
-    let mut shelf = MemoryShelf::new(alloc, files, Vec::new(alloc));
-    let mut src = MemorySource::new(b"1 2 3\n1 2 3\n".to_vec(alloc)?, 4_096, Vec::new(alloc));
+    let mut shelf = shelf_of(alloc, trial_program().as_bytes())?;
+    let mut src = source_of(alloc, b"1 2 3\n1 2 3\n")?;
     let mut out = MemorySink::new(alloc, 200, Vec::new(alloc))?;
     let mut free = Free::new();
     let status = peregrine(

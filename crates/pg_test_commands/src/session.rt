@@ -2,6 +2,7 @@
 
 ghost use Rattle.std.specs.Prelude.{◌<◌};
 
+use crate::memory::words_of;
 use pg_commands::pg_go::OneByOne;
 use pg_commands::{Status, peregrine};
 use pg_free::Free;
@@ -68,14 +69,6 @@ fn ones(alloc: Global, count: usize) -> Result<String, AllocError> {
 
 fn blanks(alloc: Global, count: usize) -> Result<Vec<u8>, AllocError> {
     vec![in alloc; b' '; count]
-}
-
-fn words_of(alloc: Global, line: &str) -> Result<Vec<String>, AllocError> {
-    let mut words = Vec::new(alloc);
-    for word in line.split_whitespace() {
-        words.push(String::from_str(alloc, word)?)?;
-    }
-    Ok(words)
 }
 
 /// The status and the written bytes of a row.

@@ -1,9 +1,10 @@
 //! What the crew that runs workers counts, through the top call.
 
-use pg_commands::pg_go::{ByLength, Crew, OneByOne, Together};
+use crate::memory::{shelf_of, source_of, words_of};
+use pg_commands::pg_go::{AnyParkers, ByLength, Crew, OneByOne, Park, Parkers, Parking, Together};
 use pg_commands::{Status, peregrine};
 use pg_free::Free;
-use pg_io::{MemoryShelf, MemorySink, MemorySource};
+use pg_io::MemorySink;
 use pg_session_trial::trial_program;
 use std::alloc::{AllocError, Global};
 use std::process::Abort;
@@ -14,14 +15,6 @@ use std::thread::Threads;
 /// Three lines, of which the first is recorded and the others are answered by reuse, each by a run of 15 turns.
 const LINES: &[u8] = b"1 2 3\n10 20\n1 2 3\n";
 
-fn words_of(alloc: Global, line: &str) -> Result<Vec<String>, AllocError> {
-    let mut words = Vec::new(alloc);
-    for word in line.split_whitespace() {
-        words.push(String::from_str(alloc, word)?)?;
-    }
-    Ok(words)
-}
-
 /// The status of a command on the program of the trial and these bytes of the source. This crew runs workers.
 fn status_of<R: Threads + Wait + Sync, C: Crew + Drop>(
     rt: &R,
@@ -31,11 +24,8 @@ fn status_of<R: Threads + Wait + Sync, C: Crew + Drop>(
     crew: &mut C,
 ) -> Result<Status, AllocError> {
     let words = words_of(alloc, line)?;
-    let name = String::from_str(alloc, "x")?;
-    let mut files = Vec::new(alloc);
-    files.push((name, trial_program().as_bytes().to_vec(alloc)?))?;
-    let mut shelf = MemoryShelf::new(alloc, files, Vec::new(alloc));
-    let mut src = MemorySource::new(input.to_vec(alloc)?, 4_096, Vec::new(alloc));
+    let mut shelf = shelf_of(alloc, trial_program().as_bytes())?;
+    let mut src = source_of(alloc, input)?;
     let mut out = MemorySink::new(alloc, 4_000, Vec::new(alloc))?;
     let mut free = Free::new();
     Ok(peregrine(
@@ -85,5 +75,12 @@ fn together(rt: HostRuntime) -> Result<(), Fail> {
 #[test]
 fn by_length(rt: HostRuntime) -> Result<(), Fail> {
     let mut crew = ByLength::new(Vec::new(rt.alloc()));
+    expect_turns(&rt, rt.alloc(), &mut crew)
+}
+
+#[test]
+fn parking(rt: HostRuntime) -> Result<(), Fail> {
+    let parkers: Box<dyn Park + Sync + Drop> = Box::new(rt.alloc(), Parkers::new(rt.alloc(), rt)?)?;
+    let mut crew = Parking::new(Vec::new(rt.alloc()), AnyParkers::new(parkers));
     expect_turns(&rt, rt.alloc(), &mut crew)
 }

@@ -10,5 +10,7 @@ mod rows;
 mod serving;
 #[cfg(test)]
 mod stalls;
+#[cfg(test)]
+mod under_lock;
 
 pub use entries::{entry_of, may_run};

@@ -4,10 +4,10 @@ ghost use Rattle.pg_test_go.specs.Serves.{Serves};
 
 use crate::entries::may_run;
 use crate::rows::{Line, ROWS, Row, SUMS};
-use crate::serving::{Crews, entry_for};
+use crate::serving::{Crews, entry_for, serve_line};
 use pg_go::pg_ir::Program;
 use pg_go::pg_run::{GuidedEnd, guide};
-use pg_go::{Crew, Room, Together, prepare};
+use pg_go::{AnyParkers, Crew, Park, Parkers, Parking, Room, Together, prepare};
 use pg_law_reuse::Entry;
 use pg_test_samples::Sample;
 use std::alloc::Global;
@@ -50,7 +50,8 @@ fn serve_row<R: Threads + Abort + Sync>(
 
 #[test]
 fn the_rows_in_one_room(rt: HostRuntime) -> Result<(), Fail> {
-    let mut crews = Crews::new(rt.alloc());
+    let parkers: Box<dyn Park + Sync + Drop> = Box::new(rt.alloc(), Parkers::new(rt.alloc(), rt)?)?;
+    let mut crews = Crews::new(rt.alloc(), AnyParkers::new(parkers));
     let mut room = Room::new(rt.alloc())?;
     for row in &ROWS {
         room = serve_row(&rt, rt.alloc(), &mut crews, room, row)?;
@@ -59,7 +60,7 @@ fn the_rows_in_one_room(rt: HostRuntime) -> Result<(), Fail> {
 }
 
 /// The samples whose recordings on `INPUT` exit: one of the others spends its steps there, and three trap.
-const SAMPLES: [Sample; 19] = [
+pub(crate) const SAMPLES: [Sample; 19] = [
     Sample::AddTwo,
     Sample::PrintInALoop,
     Sample::PlaceByNumber,
@@ -81,7 +82,7 @@ const SAMPLES: [Sample; 19] = [
     Sample::TwoCounters,
 ];
 
-const INPUT: [i64; 2] = [3, 5];
+pub(crate) const INPUT: [i64; 2] = [3, 5];
 
 /// A sample's run by each crew in a room, which comes to what the guided run comes to. Gives the room again.
 fn serve_sample<R: Threads + Abort + Sync>(
@@ -105,7 +106,8 @@ fn serve_sample<R: Threads + Abort + Sync>(
 
 #[test]
 fn the_samples_in_one_room(rt: HostRuntime) -> Result<(), Fail> {
-    let mut crews = Crews::new(rt.alloc());
+    let parkers: Box<dyn Park + Sync + Drop> = Box::new(rt.alloc(), Parkers::new(rt.alloc(), rt)?)?;
+    let mut crews = Crews::new(rt.alloc(), AnyParkers::new(parkers));
     let mut room = Room::new(rt.alloc())?;
     for sample in SAMPLES {
         room = serve_sample(&rt, rt.alloc(), &mut crews, room, sample)?;
@@ -130,5 +132,37 @@ fn a_room_of_its_own(rt: HostRuntime) -> Result<(), Fail> {
     assert_eq!(rt; ended.turns, 15);
     assert_eq!(rt; crew.count(), 15);
     assert_eq!(rt; crew.another().count(), 0);
+    Ok(())
+}
+
+/// A crew that parks, and another one of its sort, which doesn't.
+#[test]
+fn workers_that_park(rt: HostRuntime) -> Result<(), Fail> {
+    let p = SUMS.sample.program(rt.alloc())?;
+    let mut entry = entry_for(rt.alloc(), &p, SUMS.recorded, SUMS.quantum)?;
+    let parkers: Box<dyn Park + Sync + Drop> = Box::new(rt.alloc(), Parkers::new(rt.alloc(), rt)?)?;
+    let mut crew = Parking::new(Vec::new(rt.alloc()), AnyParkers::new(parkers));
+    let mut other = crew.another();
+    let room = Room::new(rt.alloc())?;
+    let room = serve_line(
+        &rt,
+        rt.alloc(),
+        &mut crew,
+        room,
+        &p,
+        &mut entry,
+        &SUMS.lines[1],
+    )?;
+    serve_line(
+        &rt,
+        rt.alloc(),
+        &mut other,
+        room,
+        &p,
+        &mut entry,
+        &SUMS.lines[2],
+    )?;
+    assert_eq!(rt; crew.count(), 15);
+    assert_eq!(rt; other.count(), 15);
     Ok(())
 }

@@ -7,7 +7,7 @@ use crate::entries::{entry_of, may_run};
 use crate::rows::Line;
 use pg_go::pg_ir::Program;
 use pg_go::pg_num::limits::QUANTUM_LIMIT;
-use pg_go::{ByLength, Crew, Ended, OneByOne, Room, Together, prepare_in};
+use pg_go::{AnyParkers, ByLength, Crew, Ended, OneByOne, Parking, Room, Together, prepare_in};
 use pg_law_reuse::Entry;
 use std::alloc::Global;
 use std::process::Abort;
@@ -87,15 +87,17 @@ pub(crate) struct Crews {
     one_by_one: OneByOne,
     together: Together,
     by_length: ByLength,
+    parking: Parking,
 }
 
 impl Crews {
-    /// Without hooks.
-    pub(crate) fn new(alloc: Global) -> Crews {
+    /// Without hooks. Those that park do so there.
+    pub(crate) fn new(alloc: Global, parkers: AnyParkers) -> Crews {
         Crews {
             one_by_one: OneByOne::new(Vec::new(alloc)),
             together: Together::new(Vec::new(alloc)),
             by_length: ByLength::new(Vec::new(alloc)),
+            parking: Parking::new(Vec::new(alloc), parkers),
         }
     }
 
@@ -114,6 +116,7 @@ impl Crews {
     {
         let room = serve_line(rt, alloc, &mut self.one_by_one, room, p, entry, line)?;
         let room = serve_line(rt, alloc, &mut self.together, room, p, entry, line)?;
+        let room = serve_line(rt, alloc, &mut self.parking, room, p, entry, line)?;
         self.by_length.expect(0);
         let room = serve_line(rt, alloc, &mut self.by_length, room, p, entry, line)?;
         self.by_length.expect(u64::MAX);

@@ -6,7 +6,7 @@ use crate::rows::{Line, SUMS};
 use crate::serving::{entry_for, serve_line};
 use pg_go::pg_ir::{InstrId, Program, ThreadNo};
 use pg_go::pg_run::GuidedEnd;
-use pg_go::{AnyHook, Hook, Room, Together};
+use pg_go::{AnyHook, AnyParkers, Hook, Park, Parkers, Parking, Room, Together};
 use pg_law_reuse::Entry;
 use std::alloc::{AllocError, Global};
 use std::hint;
@@ -75,6 +75,25 @@ fn serve_stalled<R: Threads + Abort + Sync>(
     serve_line(rt, alloc, &mut crew, room, p, entry, &LINE)
 }
 
+/// The same, where the others park meanwhile.
+fn serve_parked<R: Threads + Abort + Sync>(
+    rt: &R,
+    alloc: Global,
+    room: Room,
+    p: &Program,
+    entry: &mut Entry,
+    thread: u64,
+    call: u64,
+    parkers: AnyParkers,
+) -> Result<Room, Fail>
+    requires serves { Serves p.now entry.old }
+    ensures serves { Serves p.now entry.new }
+{
+    let hooks = stalls(alloc, thread, call)?;
+    let mut crew = Parking::new(hooks, parkers);
+    serve_line(rt, alloc, &mut crew, room, p, entry, &LINE)
+}
+
 /// A run for each worker and each of its calls, in one room.
 fn serve_each_stall<R: Threads + Abort + Sync>(
     rt: &R,
@@ -97,4 +116,22 @@ fn a_worker_that_stalls_changes_nothing(rt: HostRuntime) -> Result<(), Fail> {
     let p = SUMS.sample.program(rt.alloc())?;
     let mut entry = entry_for(rt.alloc(), &p, SUMS.recorded, SUMS.quantum)?;
     serve_each_stall(&rt, rt.alloc(), &p, &mut entry)
+}
+
+#[test]
+fn a_worker_that_stalls_while_others_park_changes_nothing(rt: HostRuntime) -> Result<(), Fail> {
+    let program = SUMS.sample.program(rt.alloc())?;
+    let p = &program;
+    let mut entry = entry_for(rt.alloc(), p, SUMS.recorded, SUMS.quantum)?;
+    let mut room = Room::new(rt.alloc())?;
+    'calls: for number in 0..WORKERS * CALLS {
+        let (thread, call) = (number / CALLS, number % CALLS);
+        let parkers: Box<dyn Park + Sync + Drop> = Box::new(
+            rt.alloc(),
+            Parkers::new(rt.alloc(), rt)?,
+        )?;
+        let parkers = AnyParkers::new(parkers);
+        room = serve_parked(&rt, rt.alloc(), room, p, &mut entry, thread, call, parkers)?;
+    }
+    Ok(())
 }
